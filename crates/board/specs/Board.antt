@@ -1,0 +1,55 @@
+-- A board of square cells, its vertices and their numbers, as document 01 has them.
+use Prim.Native.Nat.{ℕ, _+_, _*_, _/_, _%_, _≤_}
+use mathlib.Core.Path.{_≡_}
+use mathlib.Core.Bool.{Bool, not, _&&_, _||_}
+use mathlib.Core.List.{List}
+use lib.Dec.{leb, ltb, eqb}
+use lib.ListN.{length, getD}
+use Rattle.board.specs.Limits.{side}
+
+-- the cells row by row, a number each: 0 free, 1 blocked
+pub record Board : Type 0 where
+  pub cells : List ℕ
+  pub width : ℕ
+  pub height : ℕ
+
+abbrev pub board : List ℕ → ℕ → ℕ → Board
+board cells width height = record { cells = cells; width = width; height = height }
+
+-- cell (x, y) is on the board
+abbrev pub onBoard : Board → ℕ → ℕ → Bool
+onBoard b x y = ltb x (b .width) && ltb y (b .height)
+
+-- cell (x, y) is blocked; everything outside the board counts as blocked
+unfoldable pub blocked : Board → ℕ → ℕ → Bool
+blocked b x y = not (onBoard b x y) || eqb (getD (b .cells) (y * b .width + x) 0) 1
+
+-- vertices are the cells' corners, (0, 0) to (width, height)
+abbrev pub isVertex : Board → ℕ → ℕ → Bool
+isVertex b x y = leb x (b .width) && leb y (b .height)
+
+abbrev pub vertices : Board → ℕ
+vertices b = (b .width + 1) * (b .height + 1)
+
+-- a vertex's number, and the column and the row of a number
+abbrev pub number : Board → ℕ → ℕ → ℕ
+number b x y = y * (b .width + 1) + x
+
+abbrev pub column : Board → ℕ → ℕ
+column b v = v % (b .width + 1)
+
+abbrev pub row : Board → ℕ → ℕ
+row b v = v / (b .width + 1)
+
+-- what the checks 1, 2 and 3 leave
+pub record Sound (b : Board) : Type 0 where
+  pub wide : 1 ≤ b .width
+  pub narrow : b .width ≤ side
+  pub high : 1 ≤ b .height
+  pub low : b .height ≤ side
+  pub full : length (b .cells) ≡ b .width * b .height
+
+-- (x, y) is a vertex of the board
+pub record OnBoard (b : Board) (x y : ℕ) : Type 0 where
+  pub x-on : x ≤ b .width
+  pub y-on : y ≤ b .height

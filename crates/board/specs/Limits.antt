@@ -1,0 +1,21 @@
+-- The numbers that a larger edition changes, each once: the largest side of a board and the width of a vertex number.
+use Prim.Native.Nat.{ℕ, _+_, _*_, _^_, _≤_, _<_}
+use native.Mathlib.Nat.{mul-le-mul, add-le-add, le-trans, lt-of-le-of-lt}
+use native.Mathlib.Omega.{arith}
+use lib.Dec.{lit<, lit≤}
+
+-- a board's sides go from 1 to this
+abbrev pub side : ℕ
+side = 63
+
+-- a vertex number has this many bits
+abbrev pub vertexBits : ℕ
+vertexBits = 16
+
+-- the most vertices that a board has
+abbrev pub mostVertices : ℕ
+mostVertices = (side + 1) * (side + 1)
+
+-- a vertex number fits, and so does the number of vertices: where the side meets the bits
+pub vertices-fit : mostVertices < 2 ^ vertexBits
+vertices-fit = lit< tt

@@ -1,0 +1,1 @@
+// Laws that several crates cite. There is no code here.
