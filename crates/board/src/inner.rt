@@ -1,5 +1,7 @@
 // Calls for the crates above, which have checked their board: each says what it requires.
 ghost use mathlib.Core.Path.{_≡_};
+ghost use mathlib.Core.Bool.{_&&_};
+ghost use lib.Dec.{leb};
 ghost use Prim.Native.Nat.{_+_, _*_, _≤_, _<_};
 ghost use Rattle.board.specs.Board.{Sound, OnBoard, board, blocked, number};
 use crate::Vertex;
@@ -24,4 +26,11 @@ pub fn is_blocked(cells: &[u8], width: usize, height: usize, x: usize, y: usize)
         }
     }
     true
+}
+
+// Whether (x, y) is a vertex of a board.
+pub fn is_vertex(width: usize, height: usize, x: usize, y: usize) -> bool
+    ensures { λ r. ⌜ r ≡ (leb x width && leb y height) ⌝ }
+{
+    x <= width && y <= height
 }

@@ -1,12 +1,12 @@
 // The board: its largest side, its vertices' numbers, and the checks that every call makes first.
 ghost use mathlib.Core.Path.{_≡_};
 ghost use Prim.Native.Nat.{_≤_, _<_};
-ghost use mathlib.Core.Bool.{_&&_};
-ghost use lib.Dec.{leb};
 ghost use lib.ListN.{length};
 ghost use Rattle.board.specs.Limits.{side, mostVertices};
 ghost use Rattle.board.specs.Board.{Board, board, vertices, number};
 ghost use Rattle.board.specs.Paper.{handed, sideFits, firstBad, boardRows, legRows, accepted};
+
+use inner::is_vertex;
 
 pub mod inner;
 
@@ -84,13 +84,6 @@ pub fn check_board(cells: &[u8], width: usize, height: usize) -> Checked
         return Checked::Byte(at);
     }
     Checked::Accepted
-}
-
-// Whether (x, y) is a vertex of a board.
-fn is_vertex(width: usize, height: usize, x: usize, y: usize) -> bool
-    ensures { λ r. ⌜ r ≡ (leb x width && leb y height) ⌝ }
-{
-    x <= width && y <= height
 }
 
 // Refusals 1 to 5, the lowest first: the board's, then the first vertex and the second.

@@ -12,7 +12,7 @@ use Rattle.board.proofs.check_leg.Tie as tie
 use Rattle.board.proofs.check_leg.Reads as reads
 use Rattle.board.proofs.check_leg.Lts as lts
 use Rattle.board.proofs.check_board.Reads as check-board-reads
-use Rattle.board.proofs.is_vertex.Reads as is-vertex-reads
+use Rattle.board.proofs.inner.is_vertex.Reads as is-vertex-reads
 
 -- the board that the call is given
 abbrev asked : tie.After-enum-told → Board

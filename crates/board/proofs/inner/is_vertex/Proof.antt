@@ -1,7 +1,7 @@
--- `board::is_vertex` is the definition's test.
+-- `board::inner::is_vertex` is the definition's test.
 use borrow.Author.Tests.{le-leb, lt-leb}
-use Rattle.board.proofs.is_vertex.Statement.{statement}
-use Rattle.board.proofs.is_vertex.Tie as tie
+use Rattle.board.proofs.inner.is_vertex.Statement.{statement}
+use Rattle.board.proofs.inner.is_vertex.Tie as tie
 
 returns : tie.Need-returns
 returns c = simp (le-leb _ _ (c .if1 .taken))

@@ -1,0 +1,20 @@
+-- `length::Direction::between` takes the leg by its vertices and gives its direction.
+use mathlib.Core.Path.{_≡_, sym, ap, _∙_, subst}
+use borrow.Author.Needs.{needs}
+use Rattle.length.specs.Legs.{Short}
+use Rattle.length.specs.Paper.{directionRow}
+use Rattle.length.proofs.Legs.{vertices-short}
+use Rattle.length.proofs.Direction.between.Statement.{statement}
+use Rattle.length.proofs.Direction.between.Tie as tie
+
+by-vertices-requires : tie.Need-by-vertices-requires
+by-vertices-requires c κs = search needs
+
+direction-of-requires : tie.Need-direction-of-requires
+direction-of-requires c κs = subst Short (sym (c .by-vertices .ensures)) (vertices-short _ _ _ _)
+
+returns : tie.Need-returns
+returns c = c .direction-of .ensures ∙ ap directionRow (c .before .by-vertices .ensures)
+
+pub between-spec : {M : Type 1} → statement M
+between-spec = tie.close (tie.spec by-vertices-requires direction-of-requires returns)

@@ -1,0 +1,6 @@
+pub mod Root
+pub mod Digits
+pub mod Units
+pub mod Steps
+pub mod Floats
+pub mod Legs

@@ -1,0 +1,5 @@
+pub mod Root
+pub mod Units
+pub mod Legs
+pub mod Floats
+pub mod Paper

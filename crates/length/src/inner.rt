@@ -1,0 +1,44 @@
+// Calls for the crates above: each says what it requires.
+ghost use mathlib.Core.Path.{_≡_};
+ghost use Prim.Native.Nat.{_+_, _*_, _^_, _≤_, _<_};
+ghost use Rattle.board.specs.Limits.{side};
+ghost use Rattle.length.specs.Root.{Bounds};
+ghost use Rattle.length.specs.Units.{unitsOf};
+ghost use Rattle.length.specs.Floats.{cellsOf};
+use crate::Length;
+
+// The whole square root: two binary digits a turn, with a remainder and no product.
+pub fn root(n: u64) -> u64
+    ensures { λ r. ⌜ Bounds n r ⌝ }
+{
+    let mut rest = n;
+    let mut remainder = 0u64;
+    let mut root = 0u64;
+    for turn in 0..32u64 {
+        remainder = (remainder << 2) + (rest >> 62);
+        rest = rest << 2;
+        let trial = (root << 2) + 1;
+        root = root << 1;
+        if trial <= remainder {
+            remainder -= trial;
+            root += 1;
+        }
+    }
+    root
+}
+
+// The units of a leg that is x columns wide and y rows high.
+pub fn units_of(x: u64, y: u64) -> u64
+    requires { ⌜ (x ≤ side) × (y ≤ side) ⌝ }
+    ensures { λ r. ⌜ r ≡ unitsOf (x * x + y * y) ⌝ }
+{
+    root((x * x + y * y) * (Length::UNITS_PER_CELL * Length::UNITS_PER_CELL))
+}
+
+// Units in cells, where the cast loses nothing.
+pub fn exact_cells(units: u64) -> f64
+    requires { ⌜ units < 2 ^ 53 ⌝ }
+    ensures { λ r. ⌜ r ≡ cellsOf units ⌝ }
+{
+    units as f64 / Length::UNITS_PER_CELL as f64
+}
