@@ -31,15 +31,24 @@ isVertex b x y = leb x (b .width) && leb y (b .height)
 abbrev pub vertices : Board → ℕ
 vertices b = (b .width + 1) * (b .height + 1)
 
--- a vertex's number, and the column and the row of a number
+-- a vertex's number on a board of that width, and a number's column and row
+abbrev pub numberOf : (width x y : ℕ) → ℕ
+numberOf width x y = y * (width + 1) + x
+
+abbrev pub columnOf : (width v : ℕ) → ℕ
+columnOf width v = v % (width + 1)
+
+abbrev pub rowOf : (width v : ℕ) → ℕ
+rowOf width v = v / (width + 1)
+
 abbrev pub number : Board → ℕ → ℕ → ℕ
-number b x y = y * (b .width + 1) + x
+number b = numberOf (b .width)
 
 abbrev pub column : Board → ℕ → ℕ
-column b v = v % (b .width + 1)
+column b = columnOf (b .width)
 
 abbrev pub row : Board → ℕ → ℕ
-row b v = v / (b .width + 1)
+row b = rowOf (b .width)
 
 -- what the checks 1, 2 and 3 leave
 pub record Sound (b : Board) : Type 0 where

@@ -3,7 +3,8 @@ ghost use mathlib.Core.Path.{_≡_};
 ghost use mathlib.Core.Bool.{_&&_};
 ghost use lib.Dec.{leb};
 ghost use Prim.Native.Nat.{_+_, _*_, _≤_, _<_};
-ghost use Rattle.board.specs.Board.{Sound, OnBoard, board, blocked, number};
+ghost use Rattle.board.specs.Limits.{side};
+ghost use Rattle.board.specs.Board.{Sound, board, blocked, numberOf, columnOf, rowOf};
 use crate::Vertex;
 
 // Whether a cell of the board is blocked.
@@ -33,4 +34,28 @@ pub fn is_vertex(width: usize, height: usize, x: usize, y: usize) -> bool
     ensures { λ r. ⌜ r ≡ (leb x width && leb y height) ⌝ }
 {
     x <= width && y <= height
+}
+
+// A vertex's number.
+pub fn number_of(width: usize, x: usize, y: usize) -> Vertex
+    requires { ⌜ (width ≤ side) × (x ≤ width) × (y ≤ side) ⌝ }
+    ensures { λ r. ⌜ r ≡ numberOf width x y ⌝ }
+{
+    (y * (width + 1) + x) as Vertex
+}
+
+// The column of a vertex number.
+pub fn column_of(width: usize, v: Vertex) -> usize
+    requires { ⌜ width ≤ side ⌝ }
+    ensures { λ r. ⌜ r ≡ columnOf width v ⌝ }
+{
+    v as usize % (width + 1)
+}
+
+// The row of a vertex number.
+pub fn row_of(width: usize, v: Vertex) -> usize
+    requires { ⌜ width ≤ side ⌝ }
+    ensures { λ r. ⌜ r ≡ rowOf width v ⌝ }
+{
+    v as usize / (width + 1)
 }

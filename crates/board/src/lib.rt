@@ -5,7 +5,6 @@ ghost use lib.ListN.{length};
 ghost use Rattle.board.specs.Limits.{side, mostVertices};
 ghost use Rattle.board.specs.Board.{Board, board, vertices, number};
 ghost use Rattle.board.specs.Paper.{handed, sideFits, firstBad, boardRows, legRows, accepted};
-
 use inner::is_vertex;
 
 pub mod inner;

@@ -74,6 +74,7 @@ vertices-short ax ay bx by = go (leb ax side && leb ay side) (leb bx side && leb
         → Short (cond (not p) First (cond (not q) Second (legOf (step ax bx) (step ay by))))
     go false q e f = tt
     go true false e f = tt
-    go true true e f =
-        (step-short ax bx (and-left (leb ax side) (leb ay side) e) (and-left (leb bx side) (leb by side) f),
-        step-short ay by (and-right (leb ax side) (leb ay side) e) (and-right (leb bx side) (leb by side) f))
+    go true true e f = (
+      step-short ax bx (and-left (leb ax side) (leb ay side) e) (and-left (leb bx side) (leb by side) f),
+      step-short ay by (and-right (leb ax side) (leb ay side) e) (and-right (leb bx side) (leb by side) f),
+    )

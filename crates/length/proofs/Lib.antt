@@ -4,3 +4,5 @@ pub mod Units
 pub mod Steps
 pub mod Floats
 pub mod Legs
+pub mod Directions
+pub mod Determined

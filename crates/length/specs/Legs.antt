@@ -5,12 +5,16 @@ use lib.IntN.{ℤ, pos, natAbs, _-ℤ_}
 use lib.Signed.{ltZ}
 use lib.Dec.{leb, ltb}
 use Rattle.board.specs.Limits.{side}
+use Rattle.length.specs.declared.Sizes.{Sizes}
 use Rattle.length.specs.declared.Leg.{Leg}
 use Rattle.length.specs.declared.Leg.the-variants.{Of, First, Second}
 
 -- dx and dy as signs and sizes
+abbrev pub sizesOf : ℤ → ℤ → Sizes
+sizesOf dx dy = record { left = ltZ dx (pos 0); x = natAbs dx; up = ltZ dy (pos 0); y = natAbs dy }
+
 abbrev pub legOf : ℤ → ℤ → Leg
-legOf dx dy = Of (record { left = ltZ dx (pos 0); x = natAbs dx; up = ltZ dy (pos 0); y = natAbs dy })
+legOf dx dy = Of (sizesOf dx dy)
 
 -- by differences: a dx beyond the largest side in size is 4, such a dy 5
 unfoldable pub legByDifferences : ℤ → ℤ → Leg

@@ -90,7 +90,11 @@ fn by_differences(dx: i32, dy: i32) -> Leg
 fn apart(a: usize, b: usize) -> u64
     ensures { λ r. ⌜ r ≡ natAbs (step a b) ⌝ }
 {
-    if a < b { (b - a) as u64 } else { (a - b) as u64 }
+    if a < b {
+        (b - a) as u64
+    } else {
+        (a - b) as u64
+    }
 }
 
 // A leg by its vertices.
