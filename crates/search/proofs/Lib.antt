@@ -1,0 +1,17 @@
+pub mod Choosing
+pub mod Taking
+pub mod Begins
+pub mod Completeness
+pub mod Tidy
+pub mod Entries
+pub mod Links
+pub mod Held
+pub mod Trails
+pub mod Routes
+pub mod Beyond
+pub mod Order
+pub mod First
+pub mod Rows
+pub mod Scans
+pub mod Reading
+pub mod Round

@@ -1,0 +1,5 @@
+pub mod Search
+pub mod Demands
+pub mod Back
+pub mod Rows
+pub mod Round
