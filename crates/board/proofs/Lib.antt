@@ -1,4 +1,5 @@
 pub mod Bytes
 pub mod Numbers
+pub mod Screens
 pub mod Rows
 pub mod Determined

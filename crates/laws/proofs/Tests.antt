@@ -51,6 +51,10 @@ pub false-of : (a : Bool) → (a ≡ true → ⊥) → a ≡ false
 false-of true f = absurd (f refl)
 false-of false f = refl
 
+pub not-of : (a : Bool) → (a ≡ true → ⊥) → not a ≡ true
+not-of true f = absurd (f refl)
+not-of false f = refl
+
 pub not-both : (a b : Bool) → not (a && b) ≡ true → a ≡ true → b ≡ true → ⊥
 not-both true true h p q = false≢true h
 not-both true false h p q = false≢true q

@@ -6,7 +6,8 @@ use borrow.Author.Tests.{not-true, not-false}
 use denote.Ref.{now}
 use Rattle.board.specs.Board.{Board, board, isVertex}
 use Rattle.board.specs.Paper.{Handed, handed, accepted, boardRows, endRows, legRows}
-use Rattle.board.proofs.Rows.{is-refusal, rows-refused, rows-accepted, ends-first, ends-second, ends-pass}
+use Rattle.board.proofs.Rows.{is-refusal, board-screen, ends-first, ends-second, ends-pass}
+use Rattle.board.proofs.Screens.{accepted-on, refused-on}
 use Rattle.board.proofs.check_leg.Statement.{statement}
 use Rattle.board.proofs.check_leg.Tie as tie
 use Rattle.board.proofs.check_leg.Reads as reads
@@ -27,13 +28,14 @@ enum-told c = search needs
 returns : tie.Need-returns
 returns c =
     let e = c .before .check-board .ensures in
-    e ∙ sym (rows-refused _ _ (λ a. is-refusal (c .before .check-board .result) (c .match .keys2) (e ∙ a)))
+    let (n, p, r) = is-refusal (c .before .check-board .result) (c .match .keys2) in
+    r ∙ sym (refused-on _ (board-screen _) n p (sym e ∙ r) _)
 
 -- the board is accepted, so its ends decide
 board-passes : (c : tie.After-enum-told) (rest : Handed) → boardRows (asked c) rest ≡ rest
 board-passes c =
     let k = c .before .before in
-    rows-accepted (asked c) (sym (k .check-board .ensures) ∙ ap handed (c .enum-told .given .1))
+    accepted-on _ (board-screen (asked c)) (sym (k .check-board .ensures) ∙ ap handed (c .enum-told .given .1))
 
 is-vertex-requires : tie.Need-is-vertex-requires
 is-vertex-requires c κs = search needs

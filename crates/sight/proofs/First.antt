@@ -1,0 +1,52 @@
+-- The first stop of a row of them. Assumes nothing.
+use Prim.Native.Nat.{ℕ, zero, suc, _<_}
+use mathlib.Core.Path.{_≡_, refl, _∙_}
+use mathlib.Core.Logic.{⊎-elim}
+use mathlib.Core.Bool.{Bool, true, false, not, _&&_, cond, true≢false}
+use native.Mathlib.Nat.{eq-or-lt-of-le}
+use native.Mathlib.Omega.{arith}
+use Rattle.sight.specs.declared.Stop.{Stop}
+use Rattle.sight.specs.declared.Stop.the-variants.{Clear, Cell, Edge}
+use Rattle.sight.specs.Sight.{every}
+use Rattle.sight.specs.Stops.{isClear, orElse, firstOf, edgeFrom}
+use Rattle.sight.proofs.Every.{last}
+
+stop-stays : (s t : Stop) → isClear s ≡ false → orElse s t ≡ s
+stop-stays Clear t h = absurd (true≢false h)
+stop-stays (Cell x y) t h = refl
+stop-stays (Edge x₁ y₁ x₂ y₂) t h = refl
+
+both-clear : (s t : Stop) → isClear (orElse s t) ≡ (isClear s && isClear t)
+both-clear Clear t = refl
+both-clear (Cell x y) t = refl
+both-clear (Edge x₁ y₁ x₂ y₂) t = refl
+
+-- nothing stops the leg
+pub first-clear : (n : ℕ) (f : ℕ → Stop) → ((k : ℕ) → k < n → f k ≡ Clear) → firstOf n f ≡ Clear
+unfolding firstOf
+first-clear zero f h = refl
+first-clear (suc n) f h = rw (first-clear n f (λ k l. h k (omega arith))) (h n (omega arith))
+
+-- the first thing that does is the one at k
+pub first-at : (n : ℕ) (f : ℕ → Stop) (k : ℕ) (s : Stop) → k < n → ((j : ℕ) → j < k → f j ≡ Clear) → f k ≡ s → isClear s ≡ false → firstOf n f ≡ s
+unfolding firstOf
+first-at zero f k s l h e q = absurd (omega arith)
+first-at (suc n) f k s l h e q =
+    ⊎-elim (λ (p : k ≡ n). rw (first-clear n f (λ j m. h j (omega arith))) (rw p at e))
+    (λ (m : k < n). rw (first-at n f k s m h e q) (stop-stays s (f n) q)) (eq-or-lt-of-le (last k n l))
+
+-- whether something stops it
+pub first-every : (n : ℕ) (f : ℕ → Stop) (g : ℕ → Bool) → ((k : ℕ) → isClear (f k) ≡ g k) → isClear (firstOf n f) ≡ every n g
+unfolding firstOf every
+first-every zero f g e = refl
+first-every (suc n) f g e = both-clear (firstOf n f) (f n) ∙ rw (first-every n f g e, e n)
+
+-- a stop under a test
+pub cond-clear : (t : Bool) (s : Stop) → isClear s ≡ false → isClear (cond t s Clear) ≡ not t
+cond-clear true s e = e
+cond-clear false s e = refl
+
+pub edge-stops : (level : Bool) (c p q : ℕ) → isClear (edgeFrom level c p q) ≡ false
+unfolding edgeFrom
+edge-stops true c p q = refl
+edge-stops false c p q = refl

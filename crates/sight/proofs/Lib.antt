@@ -1,0 +1,14 @@
+pub mod Every
+pub mod Axis
+pub mod Sides
+pub mod Crossing
+pub mod First
+pub mod Walking
+pub mod Beside
+pub mod Edging
+pub mod Seen
+pub mod Symmetric
+pub mod Steps
+pub mod Visible
+pub mod Determined
+pub mod Worked

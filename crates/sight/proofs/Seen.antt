@@ -1,0 +1,125 @@
+-- A leg has sight exactly if nothing stops it. Assumes nothing.
+use Prim.Native.Nat.{ℕ, _+_, _≤_, _<_, min, max}
+use mathlib.Core.Path.{_≡_, refl, sym, _∙_, subst, subst₂}
+use mathlib.Core.Logic.{_⊎_, inl, inr, ⊎-elim}
+use mathlib.Core.Bool.{Bool, true, false, not, _&&_, and-true, false≢true}
+use native.Mathlib.Omega.{arith}
+use borrow.Author.Tests.{lt-ltb, le-leb, ltb-true, leb-true, eqb-true, eq-eqb, not-true}
+use lib.Dec.{ltb, leb, eqb}
+use Rattle.laws.proofs.Tests.{and-both, and-left, and-right, not-both, same-test, not-of}
+use Rattle.board.specs.Board.{Board, blocked}
+use Rattle.sight.specs.declared.Stop.the-variants.{Cell}
+use Rattle.sight.specs.Sight.{crossed, rowWall, columnWall, between, every, cellsFree, edgesOpen, sees}
+use Rattle.sight.specs.Leg.{Ends, far, cellAt, vertexAt}
+use Rattle.sight.specs.Stops.{isClear, cellStop, columnStop, cellsStop, walled, edgeFrom, edgeStop, edgesStop, firstStop}
+use Rattle.sight.proofs.Every.{every-at, every-of}
+use Rattle.sight.proofs.Axis.{axis-spans, axis-on, axis-of}
+use Rattle.sight.proofs.Crossing.{cross-placed}
+use Rattle.sight.proofs.First.{first-every, cond-clear, edge-stops}
+
+-- ---- what stops a leg, as tests in steps from the first end
+
+module _ (b : Board) where
+  pub edges-every : (level : Bool) (c p q : ℕ) → isClear (edgesStop b level c p q) ≡ every (far p q) (λ (u : ℕ). not (walled b level c (cellAt p q u)))
+  unfolding edgesStop edgeStop
+  edges-every level c p q =
+      first-every (far p q) _ _ (λ u.
+      cond-clear (walled b level c (cellAt p q u)) (edgeFrom level c (vertexAt p q u) (vertexAt p q (u + 1)))
+      (edge-stops level c (vertexAt p q u) (vertexAt p q (u + 1))))
+
+  pub cells-every : (ax ay bx by : ℕ) → isClear (cellsStop b ax ay bx by) ≡ every (far ax bx) (λ (u : ℕ). every (far ay by) (λ (v : ℕ). not (crossed ax ay bx by (cellAt ax bx u) (cellAt ay by v) && blocked b (cellAt ax bx u) (cellAt ay by v))))
+  unfolding cellsStop columnStop cellStop
+  cells-every ax ay bx by =
+      first-every (far ax bx) _ _ (λ u. first-every (far ay by) _ _ (λ v.
+      let i : ℕ = cellAt ax bx u in
+      let j : ℕ = cellAt ay by v in
+      cond-clear (crossed ax ay bx by i j && blocked b i j) (Cell i j) refl))
+
+-- ---- along one axis: the edges between p and q, and the steps from p
+
+between-parts : (p q : ℕ) (wall : ℕ → Bool) (k : ℕ) → (between p q k && wall k) ≡ true → (min p q ≤ k) × (k < max p q) × (wall k ≡ true)
+unfolding between
+between-parts p q wall k h =
+    let s : Bool = leb (min p q) k in
+    let t : Bool = ltb k (max p q) in
+    let d = and-left (s && t) (wall k) h in
+    (leb-true (min p q) k (and-left s t d), ltb-true k (max p q) (and-right s t d), and-right (s && t) (wall k) h)
+
+-- no edge lies between equal ends
+no-edge : (p q size : ℕ) (wall : ℕ → Bool) → p ≡ q → every size (λ (k : ℕ). not (between p q k && wall k)) ≡ true
+no-edge p q size wall e =
+    every-of size _ (λ k l. not-of (between p q k && wall k) (λ w.
+    let d = between-parts p q wall k w in
+    omega (arith, d .0, d .1)))
+
+module _ (p q size : ℕ) (wall : ℕ → Bool) (hp : p ≤ size) (hq : q ≤ size) where
+  pub steps-every : every size (λ (k : ℕ). not (between p q k && wall k)) ≡ every (far p q) (λ (u : ℕ). not (wall (cellAt p q u)))
+  unfolding between
+  steps-every =
+      same-test _ _
+      (λ h. every-of (far p q) _ (λ u l. not-of (wall (cellAt p q u)) (λ w.
+      let s = axis-spans p q u l in
+      not-both (between p q (cellAt p q u)) (wall (cellAt p q u)) (every-at size _ h (cellAt p q u) (axis-on p q u l size hp hq))
+      (and-both (le-leb (min p q) (cellAt p q u) (omega (arith, s .0))) (lt-ltb (cellAt p q u) (max p q) (s .1))) w)))
+      (λ h. every-of size _ (λ k l. not-of (between p q k && wall k) (λ w.
+      let d = between-parts p q wall k w in
+      let o = axis-of p q k (omega (arith, d .0)) (d .1) in
+      let n : not (wall k) ≡ true = subst (λ (z : ℕ). not (wall z) ≡ true) (o .2) (every-at (far p q) _ h (o .0) (o .1)) in
+      false≢true (sym (not-true (wall k) n) ∙ d .2))))
+
+-- ---- the leg
+
+-- a horizontal or vertical leg crosses no cell
+axis-free : (b : Board) (ax ay bx by : ℕ) → (ax ≡ bx) ⊎ (ay ≡ by) → cellsFree b ax ay bx by ≡ true
+unfolding cellsFree
+axis-free b ax ay bx by z =
+    every-of (b .height) _ (λ j hj. every-of (b .width) _ (λ i hi. not-of (crossed ax ay bx by i j && blocked b i j) (λ q.
+    let o = cross-placed ax ay bx by i j (and-left (crossed ax ay bx by i j) (blocked b i j) q) in
+    ⊎-elim (λ (e : ax ≡ bx). omega (arith, o .0 .1)) (λ (e : ay ≡ by). omega (arith, o .1 .1)) z)))
+
+module _ (b : Board) (ax ay bx by : ℕ) (on : Ends b ax ay bx by) where
+  cells-same : cellsFree b ax ay bx by ≡ isClear (cellsStop b ax ay bx by)
+  unfolding cellsFree
+  cells-same =
+      same-test _ _
+      (λ e. subst (λ (t : Bool). t ≡ true) (sym (cells-every b ax ay bx by))
+      (every-of (far ax bx) _ (λ u hu. every-of (far ay by) _ (λ v hv.
+      every-at (b .width) _
+      (every-at (b .height) _ e (cellAt ay by v) (axis-on ay by v hv (b .height) (on .first .y-on) (on .second .y-on)))
+      (cellAt ax bx u) (axis-on ax bx u hu (b .width) (on .first .x-on) (on .second .x-on))))))
+      (λ e. let f = subst (λ (t : Bool). t ≡ true) (cells-every b ax ay bx by) e in
+      every-of (b .height) _ (λ j hj. every-of (b .width) _ (λ i hi. not-of (crossed ax ay bx by i j && blocked b i j) (λ q.
+      let x = and-left (crossed ax ay bx by i j) (blocked b i j) q in
+      let y = and-right (crossed ax ay bx by i j) (blocked b i j) q in
+      let o = cross-placed ax ay bx by i j x in
+      not-both (crossed ax ay bx by i j) (blocked b i j)
+      (subst₂ (λ (i j : ℕ). not (crossed ax ay bx by i j && blocked b i j) ≡ true) (o .0 .2) (o .1 .2)
+      (every-at (far ay by) _ (every-at (far ax bx) _ f (o .0 .0) (o .0 .1)) (o .1 .0) (o .1 .1))) x y))))
+
+  row-same : every (b .width) (λ (x : ℕ). not (between ax bx x && rowWall b x ay)) ≡ isClear (edgesStop b true ay ax bx)
+  unfolding walled
+  row-same =
+      steps-every ax bx (b .width) (λ (x : ℕ). rowWall b x ay) (on .first .x-on) (on .second .x-on)
+      ∙ sym (edges-every b true ay ax bx)
+
+  column-same : every (b .height) (λ (y : ℕ). not (between ay by y && columnWall b ax y)) ≡ isClear (edgesStop b false ax ay by)
+  unfolding walled
+  column-same =
+      steps-every ay by (b .height) (λ (y : ℕ). columnWall b ax y) (on .first .y-on) (on .second .y-on)
+      ∙ sym (edges-every b false ax ay by)
+
+  by-cases : (p q : Bool) → eqb ay by ≡ p → eqb ax bx ≡ q → sees b ax ay bx by ≡ isClear (firstStop b ax ay bx by)
+  unfolding sees edgesOpen firstStop
+  by-cases true true e f = rw (axis-free b ax ay bx by (inr (eqb-true ay by e)), e, f, no-edge ay by (b .height) (columnWall b ax) (eqb-true ay by e), and-true) row-same
+  by-cases true false e f = rw (axis-free b ax ay bx by (inr (eqb-true ay by e)), e, f, and-true) row-same
+  by-cases false true e f = rw (axis-free b ax ay bx by (inl (eqb-true ax bx f)), e, f) column-same
+  by-cases false false e f = rw (e, f, and-true) cells-same
+
+  pub sees-clear : sees b ax ay bx by ≡ isClear (firstStop b ax ay bx by)
+  sees-clear = by-cases (eqb ay by) (eqb ax bx) refl refl
+
+-- a vertex has sight of itself
+pub sees-itself : (b : Board) (x y : ℕ) → sees b x y x y ≡ true
+unfolding sees edgesOpen
+sees-itself b x y =
+    rw (axis-free b x y x y (inl refl), eq-eqb y y refl, eq-eqb x x refl, no-edge x x (b .width) (λ (k : ℕ). rowWall b k y) refl, no-edge y y (b .height) (columnWall b x) refl)

@@ -1,0 +1,5 @@
+pub mod Sight
+pub mod Leg
+pub mod Stops
+pub mod Neighbours
+pub mod Paper

@@ -1,0 +1,92 @@
+// Calls for the crates above, which have checked their board: each says what it requires.
+ghost use mathlib.Core.Path.{_≡_};
+ghost use mathlib.Core.Bool.{true};
+ghost use Rattle.board.specs.Board.{Sound, board};
+ghost use Rattle.sight.specs.Leg.{Ends};
+ghost use Rattle.sight.specs.Sight.{sees};
+ghost use Rattle.sight.specs.Stops.{isClear, firstStop};
+ghost use Rattle.sight.specs.Neighbours.{neighbours};
+use crate::Stop;
+use crate::edges::edges_stop;
+use crate::leg;
+use crate::walk::cells_stop;
+use crate::walls::is_column_wall;
+use crate::walls::is_row_wall;
+use board::inner::is_cell_blocked;
+
+// What stops the leg first, counted from its first end.
+pub fn first_stop(
+    cells: &[u8],
+    width: usize,
+    height: usize,
+    ax: usize,
+    ay: usize,
+    bx: usize,
+    by: usize,
+) -> Stop
+    requires { ⌜ Sound (board (now cells) width height) ⌝ }
+    requires { ⌜ Ends (board (now cells) width height) ax ay bx by ⌝ }
+    ensures { λ r. ⌜ r ≡ firstStop (board (now (cells .entry)) width height) ax ay bx by ⌝ }
+{
+    if ay == by {
+        return edges_stop(cells, width, height, true, ay, ax, bx);
+    }
+    if ax == bx {
+        return edges_stop(cells, width, height, false, ax, ay, by);
+    }
+    cells_stop(cells, width, height, ax, ay, bx, by)
+}
+
+// Whether nothing stops the leg.
+fn is_clear(stop: Stop) -> bool
+    ensures { λ r. ⌜ r ≡ isClear stop ⌝ }
+{
+    match stop {
+        Stop::Clear => true,
+        Stop::Cell(_, _) => false,
+        Stop::Edge(_, _, _, _) => false,
+    }
+}
+
+// Whether the leg from (ax, ay) to (bx, by) has sight.
+pub fn sees(
+    cells: &[u8],
+    width: usize,
+    height: usize,
+    ax: usize,
+    ay: usize,
+    bx: usize,
+    by: usize,
+) -> bool
+    requires { ⌜ Sound (board (now cells) width height) ⌝ }
+    requires { ⌜ Ends (board (now cells) width height) ax ay bx by ⌝ }
+    ensures { λ r. ⌜ r ≡ sees (board (now (cells .entry)) width height) ax ay bx by ⌝ }
+{
+    is_clear(first_stop(cells, width, height, ax, ay, bx, by))
+}
+
+// The same for neighbours, by the one cell between them or the two beside them.
+pub fn sees_neighbour(
+    cells: &[u8],
+    width: usize,
+    height: usize,
+    ax: usize,
+    ay: usize,
+    bx: usize,
+    by: usize,
+) -> bool
+    requires { ⌜ Sound (board (now cells) width height) ⌝ }
+    requires { ⌜ Ends (board (now cells) width height) ax ay bx by ⌝ }
+    requires { ⌜ neighbours ax ay bx by ≡ true ⌝ }
+    ensures { λ r. ⌜ r ≡ sees (board (now (cells .entry)) width height) ax ay bx by ⌝ }
+{
+    let x = leg::lesser(ax, bx);
+    let y = leg::lesser(ay, by);
+    if ay == by {
+        return !is_row_wall(cells, width, height, x, ay);
+    }
+    if ax == bx {
+        return !is_column_wall(cells, width, height, ax, y);
+    }
+    !is_cell_blocked(cells, width, height, x, y)
+}

@@ -1,0 +1,58 @@
+// Line of sight between two vertices of a board.
+ghost use mathlib.Core.Path.{_≡_};
+ghost use Rattle.board.specs.Board.{board};
+ghost use Rattle.sight.specs.Paper.{handed, sightRow};
+use board::Checked;
+use board::check_leg;
+
+mod edges;
+pub mod inner;
+mod leg;
+mod walk;
+mod walls;
+
+// What stops a leg: nothing, a cell, or a unit edge with its nearer vertex first.
+pub enum Stop {
+    Clear,
+    Cell(usize, usize),
+    Edge(usize, usize, usize, usize),
+}
+
+// The answer to a sight request, or why there is none.
+pub enum Answer {
+    Yes,
+    No,
+    Side,
+    Count,
+    Byte(usize),
+    First,
+    Second,
+}
+
+// Whether the leg from (ax, ay) to (bx, by) has sight, for any board and any two vertices.
+pub fn sight(
+    cells: &[u8],
+    width: usize,
+    height: usize,
+    ax: usize,
+    ay: usize,
+    bx: usize,
+    by: usize,
+) -> Answer
+    ensures { λ r. ⌜ handed r ≡ sightRow (board (now (cells .entry)) width height) ax ay bx by ⌝ }
+{
+    match check_leg(cells, width, height, ax, ay, bx, by) {
+        Checked::Side => Answer::Side,
+        Checked::Count => Answer::Count,
+        Checked::Byte(at) => Answer::Byte(at),
+        Checked::First => Answer::First,
+        Checked::Second => Answer::Second,
+        Checked::Accepted => {
+            if inner::sees(cells, width, height, ax, ay, bx, by) {
+                Answer::Yes
+            } else {
+                Answer::No
+            }
+        }
+    }
+}
