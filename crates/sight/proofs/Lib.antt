@@ -11,4 +11,3 @@ pub mod Symmetric
 pub mod Steps
 pub mod Visible
 pub mod Determined
-pub mod Worked
