@@ -1,0 +1,69 @@
+/* Wexxolin for C: line of sight, leg length and direction, the route search and the job reader, as proved.
+
+   Every call takes every input and hands back document 01's number (0 accepted, 8 no path, the rest refusals) and place.
+   A value is 0 where its row of the table has none, so it is 0 with every refusal; with 7 the number of vertices needed is the place.
+   Slices are passed as a pointer and a number of elements, which must be there; a pointer may be NULL where that number is 0.
+   A slice that a call writes must not overlap another one. */
+#ifndef WEXXOLIN_H
+#define WEXXOLIN_H
+
+#include <stddef.h>
+#include <stdint.h>
+
+#ifdef __cplusplus
+extern "C" {
+#endif
+
+/* A vertex number as the slices hold it: y * (width + 1) + x. */
+typedef uint16_t wexxolin_vertex;
+
+/* Does the leg from (ax, ay) to (bx, by) have sight? sight is 1 or 0. Refusals 1 to 5. */
+struct wexxolin_sight {
+    uint64_t number, place, sight;
+};
+struct wexxolin_sight wexxolin_sight(const uint8_t *cells, size_t cells_len, size_t width, size_t height,
+                                     size_t ax, size_t ay, size_t bx, size_t by);
+
+/* The length of a leg in units (2^20 to a cell) and in cells. Refusals 4 and 5. */
+struct wexxolin_length {
+    uint64_t number, place, units;
+    double cells;
+};
+struct wexxolin_length wexxolin_length(int32_t dx, int32_t dy);
+struct wexxolin_length wexxolin_length_between(size_t ax, size_t ay, size_t bx, size_t by);
+
+/* The direction of a leg: dx * 2^20 / units and dy * 2^20 / units. Refusals 4, 5 and 9. */
+struct wexxolin_direction {
+    uint64_t number, place;
+    double x, y;
+};
+struct wexxolin_direction wexxolin_direction(int32_t dx, int32_t dy);
+struct wexxolin_direction wexxolin_direction_between(size_t ax, size_t ay, size_t bx, size_t by);
+
+/* The route from (sx, sy) to (gx, gy). vertices is the number of entries written to path. Refusals 1 to 7; 8 is no path. */
+struct wexxolin_route {
+    uint64_t number, place;
+    double cells;
+    uint64_t units, vertices, expansions, tests;
+};
+struct wexxolin_route wexxolin_route(const uint8_t *cells, size_t cells_len, size_t width, size_t height,
+                                     size_t sx, size_t sy, size_t gx, size_t gy,
+                                     uint64_t *g, size_t g_len, wexxolin_vertex *parents, size_t parents_len,
+                                     uint8_t *marks, size_t marks_len, wexxolin_vertex *path, size_t path_len);
+
+/* A job's board, its cells written to board. Refusals 10 to 19. */
+struct wexxolin_board {
+    uint64_t number, place, width, height, nets;
+};
+struct wexxolin_board wexxolin_board(const uint8_t *job, size_t job_len, uint8_t *board, size_t board_len);
+
+/* A job's net by its index from 0. Refusals 10 to 18 and 20. */
+struct wexxolin_net {
+    uint64_t number, place, net, sx, sy, gx, gy;
+};
+struct wexxolin_net wexxolin_net(const uint8_t *job, size_t job_len, size_t index);
+
+#ifdef __cplusplus
+}
+#endif
+#endif

@@ -1,0 +1,135 @@
+#include "boards.h"
+
+#include <string.h>
+
+struct dice dice_of(uint64_t seed)
+{
+    struct dice dice = {seed * 0x9e3779b97f4a7c15u + 0x2545f4914f6cdd1du};
+    if (dice.state == 0)
+        dice.state = 1;
+    for (int i = 0; i < 8; i++)
+        dice_throw(&dice);
+    return dice;
+}
+
+/* xorshift64*, by Marsaglia and Vigna */
+uint64_t dice_throw(struct dice *dice)
+{
+    dice->state ^= dice->state >> 12;
+    dice->state ^= dice->state << 25;
+    dice->state ^= dice->state >> 27;
+    return dice->state * 0x2545f4914f6cdd1du;
+}
+
+size_t dice_below(struct dice *dice, size_t count)
+{
+    return count ? (size_t)((dice_throw(dice) >> 32) * count >> 32) : 0;
+}
+
+void dice_fill(struct dice *dice, void *bytes, size_t count)
+{
+    uint8_t *to = bytes;
+    for (; count > 0;) {
+        uint64_t eight = dice_throw(dice);
+        size_t part = count < 8 ? count : 8;
+        memcpy(to, &eight, part);
+        to += part;
+        count -= part;
+    }
+}
+
+void board_scattered(struct dice *dice, uint8_t *cells, size_t width, size_t height, size_t percent)
+{
+    for (size_t i = 0; i < width * height; i++)
+        cells[i] = dice_below(dice, 100) < percent;
+}
+
+void board_keepouts(struct dice *dice, uint8_t *cells, size_t width, size_t height, size_t count)
+{
+    memset(cells, 0, width * height);
+    for (; count > 0; count--) {
+        size_t x0 = dice_below(dice, width), y0 = dice_below(dice, height);
+        size_t x1 = x0 + 1 + dice_below(dice, width / 3 + 1), y1 = y0 + 1 + dice_below(dice, height / 3 + 1);
+        for (size_t y = y0; y < y1 && y < height; y++)
+            for (size_t x = x0; x < x1 && x < width; x++)
+                cells[y * width + x] = 1;
+    }
+}
+
+/* Corridors one cell wide between walls one cell thick; every place can be reached from every other one. */
+void board_maze(struct dice *dice, uint8_t *cells, size_t width, size_t height)
+{
+    static const int ways[4][2] = {{1, 0}, {-1, 0}, {0, 1}, {0, -1}};
+    static uint16_t trail[64 * 64];
+    size_t depth = 1;
+    memset(cells, 1, width * height);
+    cells[0] = 0;
+    trail[0] = 0;
+    while (depth > 0) {
+        size_t at = trail[depth - 1], x = at % width, y = at / width, first = dice_below(dice, 4), k;
+        for (k = 0; k < 4; k++) {
+            const int *way = ways[(first + k) % 4];
+            long tx = (long)x + 2 * way[0], ty = (long)y + 2 * way[1];
+            if (tx < 0 || ty < 0 || tx >= (long)width || ty >= (long)height || !cells[(size_t)ty * width + (size_t)tx])
+                continue;
+            cells[(y + (size_t)way[1]) * width + x + (size_t)way[0]] = 0;
+            cells[(size_t)ty * width + (size_t)tx] = 0;
+            trail[depth++] = (uint16_t)((size_t)ty * width + (size_t)tx);
+            break;
+        }
+        if (k == 4)
+            depth--;
+    }
+}
+
+/* Walls with one gap each, at one end and the other in turn; lying or standing. */
+void board_serpentine(struct dice *dice, uint8_t *cells, size_t width, size_t height)
+{
+    int standing = (int)dice_below(dice, 2);
+    memset(cells, 0, width * height);
+    for (size_t y = 0; y < height; y++)
+        for (size_t x = 0; x < width; x++) {
+            size_t along = standing ? y : x, across = standing ? x : y, end = (standing ? height : width) - 1;
+            if (across % 2 == 1 && along != (across % 4 == 1 ? end : 0))
+                cells[y * width + x] = 1;
+        }
+}
+
+/* Blocked cells that touch only at corners, with some cells changed. */
+void board_chequered(struct dice *dice, uint8_t *cells, size_t width, size_t height, size_t percent_changed)
+{
+    for (size_t y = 0; y < height; y++)
+        for (size_t x = 0; x < width; x++)
+            cells[y * width + x] = ((x + y) % 2 == 1) != (dice_below(dice, 100) < percent_changed);
+}
+
+/* Diagonal rows of blocked cells with free ones between. */
+void board_staircases(struct dice *dice, uint8_t *cells, size_t width, size_t height)
+{
+    size_t period = 2 + dice_below(dice, 5), slope = 1 + dice_below(dice, 2), falling = dice_below(dice, 2);
+    for (size_t y = 0; y < height; y++)
+        for (size_t x = 0; x < width; x++) {
+            size_t along = falling ? x + slope * y : x + slope * (height - y);
+            cells[y * width + x] = along % period == 0 && dice_below(dice, 100) < 90;
+        }
+}
+
+/* A wall from side to side, so that the two parts cannot reach each other; some scattered cells besides. */
+void board_divided(struct dice *dice, uint8_t *cells, size_t width, size_t height)
+{
+    board_scattered(dice, cells, width, height, dice_below(dice, 25));
+    if (dice_below(dice, 2)) {
+        size_t x = dice_below(dice, width);
+        for (size_t y = 0; y < height; y++)
+            cells[y * width + x] = 1;
+    } else {
+        memset(cells + dice_below(dice, height) * width, 1, width);
+    }
+}
+
+void board_enclose(uint8_t *cells, size_t width, size_t height, size_t x, size_t y)
+{
+    for (size_t j = y ? y - 1 : 0; j <= y && j < height; j++)
+        for (size_t i = x ? x - 1 : 0; i <= x && i < width; i++)
+            cells[j * width + i] = 1;
+}

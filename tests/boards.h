@@ -1,0 +1,29 @@
+/* Dice that always fall the same way for a seed, and boards of several kinds thrown with them. */
+#ifndef BOARDS_H
+#define BOARDS_H
+
+#include <stddef.h>
+#include <stdint.h>
+
+struct dice {
+    uint64_t state;
+};
+
+struct dice dice_of(uint64_t seed);
+uint64_t dice_throw(struct dice *dice);
+size_t dice_below(struct dice *dice, size_t count); /* 0 .. count - 1; 0 for count 0 */
+void dice_fill(struct dice *dice, void *bytes, size_t count);
+
+/* Each writes width * height cell bytes. */
+void board_scattered(struct dice *dice, uint8_t *cells, size_t width, size_t height, size_t percent);
+void board_keepouts(struct dice *dice, uint8_t *cells, size_t width, size_t height, size_t count);
+void board_maze(struct dice *dice, uint8_t *cells, size_t width, size_t height);
+void board_serpentine(struct dice *dice, uint8_t *cells, size_t width, size_t height);
+void board_chequered(struct dice *dice, uint8_t *cells, size_t width, size_t height, size_t percent_changed);
+void board_staircases(struct dice *dice, uint8_t *cells, size_t width, size_t height);
+void board_divided(struct dice *dice, uint8_t *cells, size_t width, size_t height);
+
+/* Blocks the four cells around a vertex. */
+void board_enclose(uint8_t *cells, size_t width, size_t height, size_t x, size_t y);
+
+#endif

@@ -1,0 +1,148 @@
+#!/bin/sh
+# broken.sh [NAME...]: breaks the fast router in one way after another and looks whether the harness finds it.
+# Prints for each way the group of cases that found it; fails if one stays unfound.
+set -eu
+here=$(cd "$(dirname "$0")" && pwd)
+LIBRARY=fast
+. "$here/settings.sh"
+work=$OUT/broken
+rm -rf "$work"
+mkdir -p "$work/bench" "$work/include"
+cp "$root/include/wexxolin.h" "$work/include"
+for part in tests/agree tests/boards tests/second/second; do
+    $CC $FLAGS -c -o "$work/$(basename $part).o" "$root/$part.c"
+done
+found=0 unfound=0
+
+# broken NAME FILE PERL: one way to break FILE
+broken() {
+    case " $wanted " in *" $1 "* | "  ") ;; *) return 0 ;; esac
+    cp "$root/bench/fast.c" "$root/bench/fast.h" "$root/bench/fast_library.c" "$work/bench"
+    perl -0pi -e "$3" "$work/bench/$2"
+    if cmp -s "$root/bench/$2" "$work/bench/$2"; then
+        echo "$1: the change does not apply" >&2
+        exit 2
+    fi
+    $CC $FLAGS -w -o "$work/agree" "$work/agree.o" "$work/boards.o" "$work/second.o" "$work/bench/fast.c" "$work/bench/fast_library.c"
+    rm -f "$work/$1.hex"
+    status=0
+    timeout 100 $RUN "$work/agree" 1 1 "$work/$1.hex" >"$work/$1.out" 2>"$work/$1.err" || status=$?
+    if [ $status = 1 ] && grep -q '^DIFFERENCE' "$work/$1.err"; then
+        found=$((found + 1))
+        printf 'found    %-26s %s: %s\n' "$1" "$(sed -n "s/^DIFFERENCE in group '\(.*\)'/\1/p" "$work/$1.err")" "$(sed -n 2p "$work/$1.err")"
+    elif [ $status = 0 ]; then
+        unfound=$((unfound + 1))
+        printf 'UNFOUND  %s\n' "$1"
+    else
+        found=$((found + 1))
+        printf 'found    %-26s the run ended with %s\n' "$1" "$status"
+    fi
+}
+
+wanted="$*"
+
+# the order of the open list
+broken tie-larger-g fast.c 's/a\.rest < b\.rest/(a.rest >> 12) > (b.rest >> 12) || ((a.rest >> 12) == (b.rest >> 12) && a.rest < b.rest)/'
+broken tie-larger-vertex fast.c 's/a\.rest < b\.rest/(a.rest >> 12) < (b.rest >> 12) || ((a.rest >> 12) == (b.rest >> 12) && a.rest > b.rest)/'
+broken tie-none fast.c 's/ \|\| \(a\.f == b\.f && a\.rest < b\.rest\)//'
+broken tie-only-vertex fast.c 's/a\.rest < b\.rest/(a.rest & 4095) < (b.rest & 4095)/'
+broken old-key-stays fast.c 's/rise\(&s->heap, i, \(struct entry\)\{s->heap.*?\}\);/(void)i;/s'
+broken key-of-old-g fast.c 's/s->heap\.entries\[i\]\.f - \(g\[n\] - new_g\)/s->heap.entries[i].f/'
+broken heap-one-child fast.c 's/down \+ 1 < count &&/down + 2 < count \&\&/'
+
+# the search
+broken equal-g-replaces fast.c 's/new_g < g\[n\]/new_g <= g[n]/'
+broken plain-a-star fast.c 's/if \(parent == v \|\| walk\(.*?\)\) \{/if (0) {/'
+broken h-zero fast.c 's/uint64_t h = units_of\(.*?\);/uint64_t h = 0;/'
+broken h-one-more fast.c 's/uint64_t h = (units_of\(.*?\));/uint64_t h = $1; h += nx == 3 \&\& ny == 1;/'
+broken reopens-expanded fast.c 's/if \(marks\[n\] == EXPANDED\)\s+continue;/if (marks[n] == EXPANDED) { tests++; continue; }/'
+broken goal-expanded fast.c 's/found = 1;/found = 1; marks[gy * stride + gx] = EXPANDED;/'
+broken goal-counted fast.c 's/found = 1;/found = 1; expansions++;/'
+broken start-without-parent fast.c 's/parents\[start\] = \(wexxolin_vertex\)start;/parents[start] = 0;/'
+broken start-tests-uncounted fast.c 's/            tests\+\+;/            tests += parent != v;/'
+broken neighbour-tests-counted fast.c 's/            tests\+\+;/            tests += 2;/'
+broken diagonal-squeeze fast.c 's/nw & ne\) \| ne << 1/nw & ne) | (ne | (nw & se)) << 1/'
+broken neighbour-edge fast.c 's/\(sw & nw\) << 6/(sw | nw) << 6/'
+
+# the slices
+broken g-not-cleared fast.c 's/memset\(g, 0, count \* sizeof \*g\);/g[start] = 0;/'
+broken parents-not-cleared fast.c 's/memset\(parents, 0, count \* sizeof \*parents\);//'
+broken marks-one-too-many fast.c 's/memset\(marks, 0, count\);/memset(marks, 0, count + (marks_len > count));/'
+broken work-beyond-slice fast.c 's/memset\(g, 0, count/memset(g, 0, (count + (count == 6))/'
+broken path-one-too-many fast.c 's/(answer\.vertices = needed;)/$1 if (path_len > needed) path[needed] = path[needed - 1];/'
+broken path-written-with-7 fast.c 's/answer\.number = 7;/answer.number = 7; if (path_len) path[0] = (wexxolin_vertex)start;/'
+broken path-goal-first fast.c 's/path\[--i\] = \(wexxolin_vertex\)v;/path[needed - i--] = (wexxolin_vertex)v;/'
+broken work-undone-with-7 fast.c 's/answer\.number = 7;/answer.number = 7; memset(marks, 0, count);/'
+broken work-undone-with-8 fast.c 's/answer\.number = 8;/answer.number = 8; memset(g, 0, count * sizeof *g);/'
+
+# the answer
+broken seven-place-given fast.c 's/answer\.place = needed;/answer.place = path_len;/'
+broken seven-with-counts fast.c 's/answer\.place = needed;/answer.place = needed; answer.expansions = counts[0];/'
+broken seven-with-vertices fast.c 's/answer\.place = needed;/answer.place = needed; answer.vertices = needed;/'
+broken seven-off-by-one fast.c 's/needed > path_len/needed >= path_len/'
+broken eight-without-counts fast.c 's/(answer\.number = 8;)\s+answer\.expansions = counts\[0\];/$1/'
+broken rounded-at-the-end fast.c 's/answer\.units = g\[goal\];/double sum = 0; for (size_t i = 1; i < needed; i++) { double x = (double)(path[i] % stride) - (double)(path[i - 1] % stride), y = (double)(path[i] \/ stride) - (double)(path[i - 1] \/ stride); sum += __builtin_sqrt(x * x + y * y); } answer.units = (uint64_t)(sum * 1048576.0);/'
+broken cells-rounded fast.c 's/\(double\)g\[goal\] \/ AXIS_UNITS/(double)(float)(g[goal] * 0x1p-20)/'
+
+# length and direction
+broken length-rounded fast.c 's/\(int64_t\)__builtin_sqrt\(\(double\)n\)/(int64_t)(__builtin_sqrt((double)n) + 0.5)/; s/u - \(u \* u > n\)/u/'
+broken length-of-float fast.c 's/__builtin_sqrt\(\(double\)n\)/(double)__builtin_sqrtf((float)n)/'
+broken direction-minus-zero fast_library.c 's/dy \* 0x1p20 \/ u/dy * 0x1p20 \/ u * (dx < 0 ? 1 : 1) - (dy == 0 ? 0.0 : 0.0) + (dy == 0 ? -0.0 : 0.0) * (dy == 0 ? 1 : 0)/; s/(dx \* 0x1p20 \/ u), .*?\};/$1, dy ? dy * 0x1p20 \/ u : -0.0};/'
+broken direction-twice-rounded fast_library.c 's/dx \* 0x1p20 \/ u/dx * (0x1p20 \/ u)/'
+broken direction-of-true-length fast_library.c 's/(double)fast_units\(dx, dy\)/$1fast_units(dx, dy)/; s/double u = \(double\)fast_units\(dx, dy\);/double u = __builtin_sqrt((double)(dx * dx + dy * dy)) * 0x1p20;/'
+broken nine-before-five fast_library.c 's/if \(number == 0 && !\(dx \| dy\)\)/if (!(dx | dy))/'
+broken between-in-32-bits fast_library.c 's/\(ax \| ay\) > 63/(uint32_t)(ax | ay) > 63/'
+broken difference-64 fast_library.c 's/dx \* dx > 63 \* 63/dx * dx > 64 * 64/'
+
+# sight
+broken corner-is-crossing fast.c 's/if \(s < 0 && \*cell\)/if ((s < 0 || (left > 1 \&\& cell[along - across])) \&\& *cell)/'
+broken corner-touched-one fast.c 's/if \(s < 0 && \*cell\)/if ((s < 0 || (left > 1 \&\& dx > dy)) \&\& *cell)/'
+broken corner-not-passed fast.c 's/if \(s <= 0\) \{/if (s < 0) {/'
+broken last-cell-unseen fast.c 's/if \(\*cell\)\s+return 0;\s+s -= dy;/if (*cell \&\& left > 1) return 0; s -= dy;/'
+broken edge-needs-one fast.c 's/\*one & \*other/*one | *other/'
+broken edge-never fast.c 's/if \(\*one & \*other\)/if (0)/'
+broken last-edge-unseen fast.c 's/dx < 0 \? -dx : dx\);/dx < 0 ? -dx - 1 : dx);/'
+broken outside-free fast_library.c 's/return fast_sight\((.*?)\);/struct wexxolin_sight a = fast_sight($1); if (a.number == 0 \&\& ((ay == by \&\& (ay == 0 || ay == height)) || (ax == bx \&\& (ax == 0 || ax == width)))) a.sight = 1; return a;/s'
+broken itself-unseen fast_library.c 's/return fast_sight\((.*?)\);/struct wexxolin_sight a = fast_sight($1); if (ax == bx \&\& ay == by) a.sight = 0; return a;/s'
+broken sampled fast_library.c 's/return fast_sight\((.*?)\);/struct wexxolin_sight a = fast_sight($1); if (a.number || ax == bx || ay == by) return a; a.sight = 1; for (int k = 0; k < 1000; k++) { double t = (k + 0.5) \/ 1000, x = ax + t * ((double)bx - (double)ax), y = ay + t * ((double)by - (double)ay); if (cells[(size_t)y * width + (size_t)x] \&\& x != (size_t)x \&\& y != (size_t)y) a.sight = 0; } return a;/s'
+
+# refusals 1 to 6
+broken side-64 fast.c 's/width - 1 > 62/width - 1 > 63/'
+broken side-0 fast.c 's/width - 1 > 62/width > 63/'
+broken side-in-32-bits fast.c 's/height - 1 > 62/(uint32_t)height - 1 > 62/'
+broken two-before-one fast.c 's/(    if \(width - 1.*?return 1;\n)(.*?return 2;\n)/$2$1/s'
+broken three-at-last fast.c 's/if \(cells\[i\] > 1\) \{\s+\*place = i;\s+return 1;\s+\}\s+return 0;/if (cells[i] > 1) *place = i + 1; if (*place) { --*place; return 1; } return 0;/'
+broken three-above-2 fast.c 's/0xfefefefefefefefeu/0xfcfcfcfcfcfcfcfcu/'
+broken four-and-five fast.c 's/return 4;/return 9;/; s/return 5;/return 4;/; s/return 9;/return 5;/'
+broken four-without-y fast.c 's/ax > width \|\| ay > height/ax > width || ay > height + 1/'
+broken five-before-four fast.c 's/(    if \(ax > width.*?return 4;\n)(.*?return 5;\n)/$2$1/s'
+broken six-of-cells fast.c 's/marks_len < count\)/marks_len < cells_len)/'
+broken six-off-by-one fast.c 's/parents_len < count/parents_len <= count/'
+
+# jobs
+broken job-8192-refused fast_library.c 's/length > 8192 \|\|/length >= 8192 ||/'
+broken job-8200-accepted fast_library.c 's/length > 8192 \|\| length % 8/length > 8200 || length % 8/'
+broken eleven-before-ten fast_library.c 's/length > 8192 \? 10 : 11/length % 8 ? 11 : 10/'
+broken empty-accepted fast_library.c 's/job\.number = 12, job;/job.number = 11, job;/'
+broken twelve-before-thirteen fast_library.c 's/(        job\.number = 13;.*?)(        job\.number = 12;.*?return job;\n)/$2$1/s'
+broken type-4-keepout fast_library.c 's/r\[0\] > 3/r[0] > 4/; s/unused\[4\] = \{/unused[5] = {/; s/0xc0\}/0xc0, 0}/'
+broken unused-byte-7 fast_library.c 's/0xc0\}/0x40}/'
+broken unused-byte-1 fast_library.c 's/0xc2/0xc0/'
+broken eighteen-after-fifteen fast_library.c 's/(            job\.number = 18;.*?return job;\n)(            job\.number = 15;.*?return job;\n)/$2$1/s'
+broken keepout-empty fast_library.c 's/r\[2\] >= r\[4\]/r[2] > r[4]/'
+broken keepout-beyond fast_library.c 's/r\[5\] > job\.height\)\s+return job;\n        \} else/r[5] > job.height + 1) return job; } else/'
+broken net-equal fast_library.c 's/r\[1\] <= last/r[1] < last/'
+broken net-zero fast_library.c 's/r\[1\] <= last/r[1] <= last \&\& last/'
+broken sixteen-before-seventeen fast_library.c 's/(            job\.number = 17;.*?last = r\[1\];\n)(            job\.number = 16;.*?return job;\n)/$2$1/s'
+broken goal-off-board fast_library.c 's/r\[5\] > job\.height\)\s+return job;\s+if \(job\.first/r[5] > 63) return job; if (job.first/'
+broken place-kept fast_library.c 's/job\.number = job\.place = 0;/job.number = 0;/'
+broken nineteen-exact fast_library.c 's/board_len < count/board_len <= count/'
+broken board-beyond fast_library.c 's/memset\(board, 0, count\)/memset(board, 0, board_len)/'
+broken board-on-refusal fast_library.c 's/(    if \(job\.number\)\n        return \(struct wexxolin_board\))/    if (job.number \&\& board_len) board[0] = 0;\n$1/'
+broken keepouts-toggle fast_library.c 's/memset\(board \+ y \* job\.width \+ r\[2\], 1, .*?\);/for (unsigned x = r[2]; x < r[4]; x++) board[y * job.width + x] ^= 1;/'
+broken twenty-one-later fast_library.c 's/index >= job\.records - job\.first_net/index > job.records - job.first_net/'
+broken index-wraps fast_library.c 's/index >= job\.records - job\.first_net/8 * index >= 8 * (job.records - job.first_net)/'
+broken start-and-goal-swapped fast_library.c 's/r\[1\], r\[2\], r\[3\], r\[4\], r\[5\]\}/r[1], r[4], r[5], r[2], r[3]}/'
+
+echo "$found found, $unfound unfound"
+[ "$unfound" = 0 ]

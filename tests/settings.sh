@@ -1,0 +1,33 @@
+# Read by the scripts beside it: where things are, and how a program is built and run. Each may be set from outside.
+#
+#   LIBRARY  what provides the functions of include/wexxolin.h: an archive or object files (target/staticlib/libcapi.a),
+#            or the word fast for the fast router, which is built for this machine
+#   CC       the compiler          FLAGS  its flags          LINK  flags behind the objects
+#   RUN      the command that runs a program built for x86-64 (nothing on x86-64 itself)
+#   OUT      folder for what is built (target/outside)
+root=$(cd "$(dirname "$0")/.." && pwd)
+OUT=${OUT:-$root/target/outside}
+LIBRARY=${LIBRARY:-$root/target/staticlib/libcapi.a}
+FLAGS=${FLAGS:--O2 -std=c11 -Wall -Wextra -fno-math-errno}
+if [ "$LIBRARY" = fast ]; then
+    CC=${CC:-gcc} LINK=${LINK-} RUN=${RUN-}
+    LIBRARY="$root/bench/fast.c $root/bench/fast_library.c"
+elif [ "$(uname -m)" = x86_64 ]; then
+    CC=${CC:-gcc} LINK=${LINK-} RUN=${RUN-}
+else
+    # the Rattle kit brings an emulator; a qemu-user that is installed serves as well
+    kit=$(cd "$(dirname "$(readlink -f "$(command -v rt)")")/.." && pwd)/on/$(uname -m)/toolchain/bin/qemu-x86_64
+    [ -x "$kit" ] || kit=qemu-x86_64
+    CC=${CC:-x86_64-linux-gnu-gcc} LINK=${LINK--static} RUN=${RUN-$kit}
+fi
+mkdir -p "$OUT"
+
+# build NAME SOURCE...: a program of this folder's sources and the library
+build() {
+    name=$1
+    shift
+    for part in $LIBRARY; do
+        [ -e "$part" ] || { echo "there is no library $part (set LIBRARY)" >&2; exit 2; }
+    done
+    $CC $FLAGS -o "$OUT/$name" "$@" $LIBRARY $LINK
+}
