@@ -1,0 +1,150 @@
+-- The cells of an accepted job: how many, what each is, and that painting gives them. Assumes nothing.
+use Prim.Native.Nat.{ℕ, zero, suc, _+_, _*_, _-_, _/_, _%_, _≤_, _<_}
+use mathlib.Core.Path.{_≡_, refl, sym, ap, _∙_}
+use mathlib.Core.Logic.{⊎-elim}
+use mathlib.Core.Bool.{true, false, _&&_, cond}
+use mathlib.Core.List.{List, [], _∷_, _++_}
+use native.Mathlib.Nat.{div-add-mod', mod-lt, le-div-iff-mul-le}
+use native.Mathlib.Omega.{arith}
+use lib.Dec.{leb, ltb, eqb}
+use lib.ListN.{length, getD, drop, length-append, length-drop, List·getD-append}
+use lib.Seq.{ext-getD, getD-drop, getD-append-add, getD-at}
+use borrow.Author.Tests.{lt-ltb, le-ltb, le-leb, ne-eqb}
+use Rattle.laws.proofs.Tests.{order, bool-cases, and-false, and-both}
+use Rattle.laws.proofs.Below.{some-none}
+use Rattle.board.specs.Limits.{side}
+use Rattle.board.specs.Board.{board, Sound}
+use Rattle.board.specs.Paper.{Handed, refusal, answer, firstBad, boardRows, legRows}
+use Rattle.board.proofs.Rows.{side-least, side-le, cells-few, rows-pass, ends-pass}
+use Rattle.job.specs.declared.steps.Progress.{Progress}
+use Rattle.job.specs.Job.{records, byte, width, height, isKeepout, covers, inKeepout, cellsUpTo, cellsOf, Accepted, nets, netRecord}
+use Rattle.job.specs.Paper.{BoardRead}
+use Rattle.job.specs.Steps.{told, readUpTo, Filled, Painted}
+use Rattle.job.proofs.Judging.{width-read, height-read, nets-read}
+use Rattle.job.proofs.Rows.{board-short, board-done}
+use Rattle.job.proofs.Accepted.{width-fits, height-fits, keepout-below, start-on, goal-on, net-record-below, net-record-is}
+
+-- ---- the list of cells
+
+module _ (job : List ℕ) where
+  abbrev cell : ℕ → ℕ
+  cell k = cond (inKeepout job (k % width job) (k / width job)) 1 0
+
+  pub cells-length : (n : ℕ) → length (cellsUpTo job n) ≡ n
+  unfolding cellsUpTo
+  cells-length zero = refl
+  cells-length (suc n) = length-append (cellsUpTo job n) (cell n ∷ []) ∙ omega (arith, cells-length n)
+
+  pub cells-at : (n k : ℕ) → k < n → getD (cellsUpTo job n) k 0 ≡ cell k
+  unfolding cellsUpTo
+  cells-at zero k l = absurd (omega arith)
+  cells-at (suc n) k l =
+      ⊎-elim
+      (λ (b : k < n). List·getD-append (cellsUpTo job n) (cell n ∷ []) 0 k (omega (arith, cells-length n)) ∙ cells-at n k b)
+      (λ (b : n ≤ k). let e : k ≡ n = omega arith in rw e (getD-at (cellsUpTo job n) (cell n) [] 0 n (cells-length n)))
+      (order k n)
+
+  cell-bit : (k : ℕ) → cell k ≤ 1
+  cell-bit k =
+      ⊎-elim
+      (λ (e : inKeepout job (k % width job) (k / width job) ≡ true). rw e (omega arith))
+      (λ (e : inKeepout job (k % width job) (k / width job) ≡ false). rw e (omega arith))
+      (bool-cases (inKeepout job (k % width job) (k / width job)))
+
+-- a list of bits has no bad byte
+all-bits : (l : List ℕ) → ((k : ℕ) → k < length l → getD l k 0 ≤ 1) → firstBad l ≡ length l
+unfolding firstBad
+all-bits [] f = refl
+all-bits (x ∷ xs) f =
+    rw (le-leb x 1 (f 0 (omega arith))) (ap suc (all-bits xs (λ (k : ℕ) (l : k < length xs). f (suc k) (omega arith))))
+
+pub cells-bits : (job : List ℕ) → firstBad (cellsOf job) ≡ length (cellsOf job)
+cells-bits job = all-bits (cellsOf job) (λ (k : ℕ) (l : k < length (cellsOf job)). rw (cells-at job (width job * height job) k (omega (arith, cells-length job (width job * height job)))) (cell-bit job k))
+
+-- ---- painting gives them
+
+module _ {job : List ℕ} (a : Accepted job) where
+  pub wide : 0 < width job
+  wide = side-least (width job) (width-fits a)
+
+  -- no keepout reaches below the board
+  kept-on : (x y : ℕ) → height job ≤ y → inKeepout job x y ≡ false
+  unfolding inKeepout
+  kept-on x y l = some-none (covers job x y) (records job) none
+    where
+      none : (i : ℕ) → i < records job → covers job x y i ≡ false
+      none i b =
+          ⊎-elim
+          (λ (e : isKeepout job i ≡ true).
+          let past = le-ltb y (byte job i 5) (omega (arith, keepout-below a i b e .3)) in
+          rw e (and-false (leb (byte job i 2) x && ltb x (byte job i 4)) (and-false (leb (byte job i 3) y) past)))
+          (λ (e : isKeepout job i ≡ false). rw e)
+          (bool-cases (isKeepout job i))
+
+  -- cells that are cleared and then painted are the job's, and what lies beyond stays
+  module _ {before mid after : List ℕ} (room : width job * height job ≤ length before) (f : Filled 0 (width job * height job) 0 before mid)
+      (p : Painted (width job) (inKeepout job) mid after) where
+    wanted : List ℕ
+    wanted = cellsOf job ++ drop (width job * height job) before
+
+    painted : (k : ℕ) → getD after k 0 ≡ cond (inKeepout job (k % width job) (k / width job)) 1 (getD mid k 0)
+    painted k = rw (div-add-mod' k (width job)) at (p .cell (k % width job) (k / width job) (mod-lt k wide))
+
+    on : (k : ℕ) → k < width job * height job → getD after k 0 ≡ getD wanted k 0
+    unfolding wanted
+    on k l =
+        let free : getD mid k 0 ≡ 0 = f .entry k ∙ rw (le-leb 0 k (omega arith), lt-ltb k (width job * height job) l) in
+        painted k ∙ rw free
+        (sym (List·getD-append (cellsOf job) (drop (width job * height job) before) 0 k (omega (arith, cells-length job (width job * height job)))
+        ∙ cells-at job (width job * height job) k l))
+
+    beyond : (k : ℕ) → width job * height job ≤ k → getD after k 0 ≡ getD wanted k 0
+    unfolding wanted
+    beyond k l =
+        let n : ℕ = width job * height job in
+        let none = kept-on (k % width job) (k / width job) (le-div-iff-mul-le wide .1 (omega arith)) in
+        let kept : getD mid k 0 ≡ getD before k 0 = f .entry k ∙ rw (and-false (leb 0 k) (le-ltb k n l)) in
+        let e : k ≡ length (cellsOf job) + (k - n) = omega (arith, cells-length job n) in
+        let e′ : n + (k - n) ≡ k = omega arith in
+        painted k ∙ rw none
+        (kept ∙ sym (ap (λ (m : ℕ). getD (cellsOf job ++ drop n before) m 0) e ∙ getD-append-add (cellsOf job) (drop n before) (k - n) 0
+        ∙ getD-drop n before (k - n) 0 ∙ ap (λ (m : ℕ). getD before m 0) e′))
+
+    same-length : length after ≡ length wanted
+    unfolding wanted
+    same-length = simp (length-append, length-drop) (omega (arith, p .long, f .long, cells-length job (width job * height job)))
+
+    pub cells-drawn : after ≡ cellsOf job ++ drop (width job * height job) before
+    unfolding wanted
+    cells-drawn =
+        ext-getD 0 after wanted same-length (λ (k : ℕ) (l : k < length after). ⊎-elim (on k) (beyond k) (order k (width job * height job)))
+
+-- ---- the board read, from what the whole job says
+
+module _ {job : List ℕ} (a : Accepted job) (p : Progress) (known : told p ≡ readUpTo job (records job)) where
+  some-records : eqb (records job) 0 ≡ false
+  some-records = ne-eqb (records job) 0 (λ z. omega (arith, a .begun))
+
+  pub whole-width : p .width ≡ width job
+  whole-width = width-read job p (records job) some-records known
+
+  whole-height : p .height ≡ height job
+  whole-height = height-read job p (records job) some-records known
+
+  whole-nets : p .nets ≡ nets job
+  whole-nets = nets-read job p (records job) some-records known
+
+  pub whole-few : p .width * p .height ≤ side * side
+  whole-few = rw (whole-width, whole-height) (cells-few (width job) (height job) (width-fits a) (height-fits a))
+
+  pub whole-room : (n : ℕ) → p .width * p .height ≤ n → p .width * height job ≤ n
+  whole-room n l = rw whole-height at l
+
+  pub whole-short : (lent : List ℕ) → length lent < p .width * p .height → BoardRead job lent (refusal 19 0) lent
+  whole-short lent l = board-short job lent a (rw (whole-width, whole-height) at l)
+
+  pub whole-done : {lent mid left : List ℕ} → p .width * p .height ≤ length lent → Filled 0 (p .width * p .height) 0 lent mid
+      → Painted (p .width) (inKeepout job) mid left → BoardRead job lent (answer (p .width ∷ p .height ∷ p .nets ∷ [])) left
+  whole-done {lent} l f q =
+      let room : width job * height job ≤ length lent = rw (whole-width, whole-height) at l in
+      rw (cells-drawn a room (rw (whole-width, whole-height) at f) (rw whole-width at q), whole-width, whole-height, whole-nets) (board-done job lent a room)

@@ -1,0 +1,10 @@
+pub mod Says
+pub mod Stepping
+pub mod Judging
+pub mod Rows
+pub mod Accepted
+pub mod Painting
+pub mod Grid
+pub mod Above
+pub mod Determined
+pub mod Worked

@@ -1,0 +1,88 @@
+-- `job::cells::paint_keepouts` blocks every keepout. The loop's invariant: those of the records before are painted.
+use mathlib.Core.Path.{_≡_, refl, sym, _∙_}
+use Prim.Native.Nat.{_-_, _≤_}
+use native.Mathlib.Nat.{mul-le-mul-right}
+use native.Mathlib.Omega.{arith}
+use borrow.Author.Needs.{needs}
+use Rattle.job.specs.Job.{records, inKeepout}
+use Rattle.job.specs.Steps.{Painted}
+use Rattle.job.proofs.Says.{said}
+use Rattle.job.proofs.Accepted.{no-keepout, keepout-on}
+use Rattle.job.proofs.Painting.{coveredBy, keepouts-none, keepouts-skip, keepouts-more}
+use Rattle.job.proofs.cells.paint_keepouts.Statement.{statement}
+use Rattle.job.proofs.cells.paint_keepouts.Tie as tie
+
+abbrev Inv-loop : tie.InvT-loop
+Inv-loop job wide board₀ i₀ i-end board i = (i ≤ i-end) × (i-end ≡ records job) × Painted wide (coveredBy job wide i) board₀ board
+
+abbrev μ-loop : tie.MeasureT-loop
+μ-loop job wide board₀ i₀ i-end board i = i-end - i
+
+loop-holds : tie.Need-loop-holds Inv-loop μ-loop
+loop-holds c = (omega arith, refl, keepouts-none _ _ _)
+
+record-at-requires : tie.Need-record-at-requires Inv-loop μ-loop
+record-at-requires c κs = omega arith
+
+enum-known-left : tie.Need-enum-known-left Inv-loop μ-loop
+enum-known-left c = search needs
+
+add-i : tie.Need-add-i Inv-loop μ-loop
+add-i c = omega arith
+
+loop-less : tie.Need-loop-less Inv-loop μ-loop
+loop-less c = omega arith
+
+loop-again : tie.Need-loop-again Inv-loop μ-loop
+loop-again c =
+    let k = c .before .before in
+    let l = k .before .loop in
+    let none = no-keepout (k .before .before .before .before .pre .0) (l .i) (omega arith) (said _ _ (c .before .record-at .ensures)) (c .match .keys2) in
+    (omega arith, l .inv .1, keepouts-skip _ _ (l .i) none (l .inv .2))
+
+paint-requires : tie.Need-paint-requires Inv-loop μ-loop
+paint-requires c κs =
+    let k = c .before .before .before .before .before in
+    let s = k .before .before .before .before in
+    let l = k .before .loop in
+    let on = keepout-on (s .pre .0) (omega arith) (said _ _ (sym (c .before .before .left .given .1) ∙ c .before .before .before .before .record-at .ensures)) in
+    omega (arith, l .inv .2 .long, mul-le-mul-right (s .args .wide) (on .3))
+
+add-i-2 : tie.Need-add-i-2 Inv-loop μ-loop
+add-i-2 c = omega arith
+
+loop-less-2 : tie.Need-loop-less-2 Inv-loop μ-loop
+loop-less-2 c = omega arith
+
+loop-again-2 : tie.Need-loop-again-2 Inv-loop μ-loop
+loop-again-2 c =
+    let r = c .before .before .before .before .before .before .before in
+    let l = r .before .before .loop in
+    let this = said _ _ (sym (c .before .before .before .before .before .left .given .1) ∙ r .record-at .ensures) in
+    (omega arith, l .inv .1, keepouts-more _ _ this (l .inv .2) (c .before .before .paint .ensures))
+
+same-length : tie.Need-same-length Inv-loop μ-loop
+same-length c = c .before .loop .inv .2 .long
+
+returns : tie.Need-returns Inv-loop μ-loop
+unfolding inKeepout
+returns c = let l = c .before .loop in let all : l .i ≡ records (c .before .before .before .before .args .job .now) = omega arith in rw all at (l .inv .2)
+
+pub paint-keepouts-spec : {M : Type 1} → statement M
+paint-keepouts-spec =
+    tie.close
+    (tie.spec
+    Inv-loop
+    μ-loop
+    loop-holds
+    record-at-requires
+    enum-known-left
+    add-i
+    loop-less
+    loop-again
+    paint-requires
+    add-i-2
+    loop-less-2
+    loop-again-2
+    same-length
+    returns)

@@ -1,0 +1,68 @@
+-- `job::steps::judge` judges a record by its type.
+use mathlib.Core.Path.{sym, _∙_}
+use native.Mathlib.Omega.{arith}
+use denote.Ref.{now}
+use Rattle.job.proofs.Says.{said}
+use Rattle.job.proofs.Judging.{row-stray, row-board, row-keepout, row-net, nets-few}
+use borrow.Author.Needs.{needs}
+use Rattle.job.proofs.steps.judge.Statement.{statement}
+use Rattle.job.proofs.steps.judge.Tie as tie
+
+record-at-requires : tie.Need-record-at-requires
+record-at-requires c κs = search needs
+
+enum-told : tie.Need-enum-told
+enum-told c = search needs
+
+enum-known-width : tie.Need-enum-known-width
+enum-known-width c = search needs
+
+board-step-requires : tie.Need-board-step-requires
+board-step-requires c κs = search needs
+
+enum-known-left : tie.Need-enum-known-left
+enum-known-left c = search needs
+
+keepout-step-requires : tie.Need-keepout-step-requires
+keepout-step-requires c κs = search needs
+
+enum-known-number : tie.Need-enum-known-number
+enum-known-number c = search needs
+
+net-step-requires : tie.Need-net-step-requires
+net-step-requires c κs = let s = c .before .before .before .before .before in omega (arith, nets-few _ _ (s .args .past) (s .pre .1))
+
+returns : tie.Need-returns
+returns c = sym (row-stray _ _ (said _ _ (sym (c .enum-told .given .1) ∙ c .before .before .record-at .ensures)))
+
+returns-2 : tie.Need-returns-2
+returns-2 c = c .board-step .ensures ∙ sym (row-board _ _ (said _ _ (sym (c .before .before .width .given .1) ∙ c .before .before .before .before .record-at .ensures)))
+
+returns-3 : tie.Need-returns-3
+returns-3 c =
+    let s = c .before .before .before .before .before .before in
+    let this = said _ _ (sym (c .before .before .left .given .1) ∙ c .before .before .before .before .record-at .ensures) in
+    rw (row-keepout (now (s .args .job)) (s .args .i) (s .args .past) (s .pre .1) this) (c .keepout-step .ensures)
+
+returns-4 : tie.Need-returns-4
+returns-4 c =
+    let s = c .before .before .before .before .before .before in
+    let this = said _ _ (sym (c .before .before .number .given .1) ∙ c .before .before .before .before .record-at .ensures) in
+    rw (row-net (now (s .args .job)) (s .args .i) (s .args .past) (s .pre .1) this) (c .net-step .ensures)
+
+pub judge-spec : {M : Type 1} → statement M
+judge-spec =
+    tie.close
+    (tie.spec
+    record-at-requires
+    enum-told
+    enum-known-width
+    board-step-requires
+    enum-known-left
+    keepout-step-requires
+    enum-known-number
+    net-step-requires
+    returns
+    returns-2
+    returns-3
+    returns-4)

@@ -1,0 +1,55 @@
+// The cells of a board: free, and blocked where a keepout is.
+ghost use mathlib.Core.Path.{_≡_};
+ghost use Prim.Native.Nat.{_*_, _≤_, _<_};
+ghost use lib.ListN.{length};
+ghost use Rattle.job.specs.Job.{Accepted, width, height, inside, inKeepout};
+ghost use Rattle.job.specs.Steps.{Filled, Painted};
+use crate::RECORD;
+use crate::records::Record;
+use crate::records::record_at;
+
+// What a blocked cell's byte is.
+const BLOCKED: u8 = 1;
+
+// Puts a value into the cells from one to just before another.
+pub fn fill(board: &mut [u8], from: usize, to: usize, value: u8)
+    requires { ⌜ (from ≤ to) × (to ≤ length (now board)) ⌝ }
+    ensures { λ r. ⌜ Filled from to value (now (board .entry)) (now (board .exit)) ⌝ }
+{
+    let mut at = from;
+    while at < to {
+        board[at] = value;
+        at += 1;
+    }
+}
+
+// Blocks the cells of one keepout, row by row.
+fn paint(board: &mut [u8], width: usize, left: usize, top: usize, right: usize, bottom: usize)
+    requires { ⌜ (left < right) × (right ≤ width) × (top ≤ bottom) × (bottom * width ≤ length (now board)) ⌝ }
+    ensures { λ r. ⌜ Painted width (inside left top right bottom) (now (board .entry)) (now (board .exit)) ⌝ }
+{
+    for y in top..bottom {
+        let row = y * width;
+        fill(board, row + left, row + right, BLOCKED);
+    }
+}
+
+// Blocks the cells of every keepout of an accepted job.
+pub fn paint_keepouts(job: &[u8], wide: usize, board: &mut [u8])
+    requires { ⌜ Accepted (now job) ⌝ }
+    requires { ⌜ (wide ≡ width (now job)) × (wide * height (now job) ≤ length (now board)) ⌝ }
+    ensures { λ r. ⌜ Painted wide (inKeepout (now (job .entry))) (now (board .entry)) (now (board .exit)) ⌝ }
+{
+    for i in 0..job.len() / RECORD {
+        let Record::Keepout {
+            left,
+            top,
+            right,
+            bottom,
+        } = record_at(job, i)
+        else {
+            continue;
+        };
+        paint(board, wide, left, top, right, bottom);
+    }
+}
