@@ -5,7 +5,16 @@ ghost use lib.Dec.{leb};
 ghost use Prim.Native.Nat.{_+_, _*_, _≤_, _<_};
 ghost use Rattle.board.specs.Limits.{side};
 ghost use Rattle.board.specs.Board.{Sound, board, blocked, numberOf, columnOf, rowOf};
+ghost use Rattle.board.specs.Paper.{sideFits};
+use crate::SIDE;
 use crate::Vertex;
+
+// Whether a board may have this side.
+pub fn side_fits(n: usize) -> bool
+    ensures { λ r. ⌜ r ≡ sideFits n ⌝ }
+{
+    1 <= n && n <= SIDE
+}
 
 // Whether a cell of the board is blocked.
 pub fn is_cell_blocked(cells: &[u8], width: usize, height: usize, x: usize, y: usize) -> bool

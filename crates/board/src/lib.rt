@@ -4,8 +4,9 @@ ghost use Prim.Native.Nat.{_≤_, _<_};
 ghost use lib.ListN.{length};
 ghost use Rattle.board.specs.Limits.{side, mostVertices};
 ghost use Rattle.board.specs.Board.{Board, board, vertices, number};
-ghost use Rattle.board.specs.Paper.{handed, sideFits, firstBad, boardRows, legRows, accepted};
+ghost use Rattle.board.specs.Paper.{handed, firstBad, boardRows, legRows, accepted};
 use inner::is_vertex;
+use inner::side_fits;
 
 pub mod inner;
 
@@ -56,13 +57,6 @@ fn first_bad(cells: &[u8]) -> usize
         i += 1;
     }
     i
-}
-
-// Whether a board may have this side.
-fn side_fits(n: usize) -> bool
-    ensures { λ r. ⌜ r ≡ sideFits n ⌝ }
-{
-    1 <= n && n <= SIDE
 }
 
 // Refusals 1, 2 and 3: sides, number of cells, cell bytes.

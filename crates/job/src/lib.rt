@@ -1,7 +1,7 @@
 // The job reader: a job's bytes are checked record by record, and its board and its nets are taken out.
 ghost use mathlib.Core.Path.{_≡_};
 ghost use Rattle.job.specs.Job.{records, Accepted};
-ghost use Rattle.job.specs.Paper.{handedBoard, handedNet, BoardRead, foundNet, netRow};
+ghost use Rattle.job.specs.Paper.{handedRefusal, handedBoard, handedNet, BoardRead, foundNet, netRow};
 ghost use Rattle.job.specs.Steps.{told, readUpTo};
 use cells::fill;
 use cells::paint_keepouts;
@@ -31,6 +31,42 @@ pub enum JobRefusal {
     End(usize),
     Number(usize),
     Late(usize),
+}
+
+impl JobRefusal {
+    // Document 01's number.
+    pub fn number(self) -> u64
+        ensures { λ r. ⌜ r ≡ handedRefusal self .number ⌝ }
+    {
+        match self {
+            JobRefusal::Long => 10,
+            JobRefusal::Uneven => 11,
+            JobRefusal::Order(_) => 12,
+            JobRefusal::Stray(_) => 13,
+            JobRefusal::Side(_) => 14,
+            JobRefusal::Keepout(_) => 15,
+            JobRefusal::End(_) => 16,
+            JobRefusal::Number(_) => 17,
+            JobRefusal::Late(_) => 18,
+        }
+    }
+
+    // The number of the record, 0 where none is named.
+    pub fn place(self) -> usize
+        ensures { λ r. ⌜ r ≡ handedRefusal self .place ⌝ }
+    {
+        match self {
+            JobRefusal::Long => 0,
+            JobRefusal::Uneven => 0,
+            JobRefusal::Order(i) => i,
+            JobRefusal::Stray(i) => i,
+            JobRefusal::Side(i) => i,
+            JobRefusal::Keepout(i) => i,
+            JobRefusal::End(i) => i,
+            JobRefusal::Number(i) => i,
+            JobRefusal::Late(i) => i,
+        }
+    }
 }
 
 // What a board read answers: the sides and how many nets there are, or 10 to 18, or 19.

@@ -13,8 +13,8 @@ use crate::LONGEST;
 use crate::RECORD;
 use crate::records::Record;
 use crate::records::record_at;
-use board::SIDE;
 use board::inner::is_vertex;
+use board::inner::side_fits;
 
 // What the records so far say: the board's sides, the last net's number and how many nets.
 pub struct Progress {
@@ -34,7 +34,7 @@ pub enum Step {
 fn sides_fit(width: usize, height: usize) -> bool
     ensures { λ r. ⌜ r ≡ (sideFits width && sideFits height) ⌝ }
 {
-    ((1 <= width) & (width <= SIDE)) & ((1 <= height) & (height <= SIDE))
+    side_fits(width) & side_fits(height)
 }
 
 // Whether a keepout has cells and lies on the board.

@@ -23,7 +23,7 @@ returns-3 : tie.Need-returns-3
 returns-3 c =
     let k = c .before .before .before in
     let off =
-        rw (k .before .is-vertex .ensures, k .is-vertex2 .ensures) at (not-true (k .before .is-vertex .result && k .is-vertex2 .result) (c .if3 .taken)) in
+    rw (k .before .is-vertex .ensures, k .is-vertex2 .ensures) at (not-true (k .before .is-vertex .result && k .is-vertex2 .result) (c .if3 .taken)) in
     sym (net-off _ _ _ _ _ _ _ (c .before .before .if1 .left) (c .before .if2 .left) off)
 
 add-t18 : tie.Need-add-t18
@@ -33,7 +33,7 @@ returns-4 : tie.Need-returns-4
 returns-4 c =
     let k = c .before .before .before in
     let on =
-        rw (k .before .is-vertex .ensures, k .is-vertex2 .ensures) at (not-false (k .before .is-vertex .result && k .is-vertex2 .result) (c .if3 .left)) in
+    rw (k .before .is-vertex .ensures, k .is-vertex2 .ensures) at (not-false (k .before .is-vertex .result && k .is-vertex2 .result) (c .if3 .left)) in
     sym (net-next _ _ _ _ _ _ _ (c .before .before .if1 .left) (c .before .if2 .left) on)
 
 pub net-step-spec : {M : Type 1} → statement M

@@ -1,7 +1,7 @@
--- `board::side_fits` is the definition's test.
+-- `board::inner::side_fits` is the definition's test.
 use borrow.Author.Tests.{le-leb, lt-leb}
-use Rattle.board.proofs.side_fits.Statement.{statement}
-use Rattle.board.proofs.side_fits.Tie as tie
+use Rattle.board.proofs.inner.side_fits.Statement.{statement}
+use Rattle.board.proofs.inner.side_fits.Tie as tie
 
 returns : tie.Need-returns
 returns c = simp (le-leb 1 _ (c .if1 .taken))
