@@ -1,27 +1,15 @@
 -- The beginning: what the states are like that a search begins with, on lists of the size or longer. Assumes nothing.
 use mathlib.Core.Path.{_≡_, refl, _∙_}
-use mathlib.Core.Bool.{cond}
 use mathlib.Core.List.{List, _++_}
-use Prim.Native.Nat.{ℕ, _≤_, _<_}
+use Prim.Native.Nat.{ℕ, _<_}
 use native.Mathlib.Omega.{arith}
-use lib.Dec.{eqb}
 use lib.ListN.{length, set, replicate, length-set, length-append, length-replicate, getD-replicate, List·getD-append}
 use lib.Seq.{set-append-left}
 use Rattle.reach.specs.Turns.{at}
 use Rattle.reach.proofs.Marks.{one-entry}
 use Rattle.search.specs.Search.{Problem, State, initial, beyond}
 use Rattle.search.specs.Demands.{Fair}
-
--- for each vertex the entries that the search begins with, and no counts yet
-pub record Begins (p : Problem) (s : State) : Type 0 where
-  pub room-g : p .size ≤ length (s .g)
-  pub room-p : p .size ≤ length (s .parent)
-  pub room-m : p .size ≤ length (s .mark)
-  pub g-at : (v : ℕ) → v < p .size → at (s .g) v ≡ 0
-  pub parent-at : (v : ℕ) → v < p .size → at (s .parent) v ≡ cond (eqb v (p .start)) (p .start) 0
-  pub mark-at : (v : ℕ) → v < p .size → at (s .mark) v ≡ cond (eqb v (p .start)) 1 0
-  pub expansions-none : s .expansions ≡ 0
-  pub tests-none : s .tests ≡ 0
+use Rattle.search.specs.Begun.{Begins}
 
 abbrev zeros : ℕ → List ℕ
 zeros n = replicate n 0

@@ -21,9 +21,10 @@ use Rattle.reach.proofs.Turns.{
 }
 use Rattle.reach.proofs.Explored.{some-number, some-number²}
 use Rattle.search.specs.Search.{Problem, State, initial, basic, search}
+use Rattle.search.specs.Begun.{Begins}
 use Rattle.search.specs.Demands.{Fair, Complete}
 use Rattle.search.proofs.Taking.{basic-disciplined, basic-tests}
-use Rattle.search.proofs.Begins.{Begins, begins-initial}
+use Rattle.search.proofs.Begins.{begins-initial}
 
 -- what holds of the marks and expansions between the turns
 abbrev pub Good : Problem → State → Type 0

@@ -110,6 +110,13 @@ first-same g′ m′ s (none e f) = none e (λ v l h o. f v l h (sym (s v l h .1
 first-same g′ m′ {r = r} s (some l h o f) =
     some l h (s r l h .1 ∙ o) (λ v i j k y. f v i j (sym (s v i j .1) ∙ k) (rw (s v i j .0, s r l h .0) at y))
 
+-- a wider range that has no further open vertex: nothing
+pub first-wider : {p : Problem} {g m : List ℕ} {lo hi r : ℕ} (lo′ hi′ : ℕ) → lo′ ≤ lo → hi ≤ hi′
+    → ((v : ℕ) → lo′ ≤ v → v < hi′ → at m v ≡ 1 → (lo ≤ v) × (v < hi)) → First p g m lo hi r → First p g m lo′ hi′ r
+first-wider lo′ hi′ a c w (none e f) = none e (λ v l h o. let q = w v l h o in f v (q .0) (q .1) o)
+first-wider lo′ hi′ a c w (some l h o f) =
+    some (omega arith) (omega arith) o (λ v i j k y. let q = w v i j k in f v (q .0) (q .1) k y)
+
 -- w opens, or its g falls to c: the first is w, if it beats the one that was
 pub first-opened : {p : Problem} {g m : List ℕ} {lo hi r : ℕ} (w c : ℕ) → hi ≤ p .size → lo ≤ w → w < hi → w < length g → w < length m
     → (at m w ≡ 1 → c < at g w) → First p g m lo hi r

@@ -10,10 +10,11 @@ use Rattle.reach.proofs.Steps.{touched}
 use Rattle.reach.proofs.Turns.{expansions-le}
 use Rattle.reach.proofs.Going as Loop
 use Rattle.search.specs.Search.{Problem, State, choose, expand, basic, search}
+use Rattle.search.specs.Begun.{Begins}
 use Rattle.search.specs.Demands.{Fair, Legs}
 use Rattle.search.proofs.Choosing.{choose-vertex}
 use Rattle.search.proofs.Taking.{basic-disciplined}
-use Rattle.search.proofs.Begins.{Begins, begins-initial}
+use Rattle.search.proofs.Begins.{begins-initial}
 use Rattle.search.proofs.Completeness.{Good, Counted, Kept, good-start, counted-start, counted-kept, search-keep}
 use Rattle.search.proofs.Tidy.{Tidy, tidy-start, tidy-kept}
 use Rattle.search.proofs.Links.{Linked, linked-start, linked-step}

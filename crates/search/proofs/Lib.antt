@@ -14,4 +14,12 @@ pub mod First
 pub mod Rows
 pub mod Scans
 pub mod Reading
-pub mod Round
+pub mod Rounds
+pub mod Table
+pub mod Margin
+pub mod Sizes
+pub mod Places
+pub mod Settled
+pub mod Passed
+pub mod Asked
+pub mod Finding

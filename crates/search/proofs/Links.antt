@@ -14,10 +14,10 @@ use Rattle.reach.specs.Turns.{at, seenIn, doneIn}
 use Rattle.reach.proofs.Steps.{Step}
 use Rattle.reach.proofs.Marks.{Marks, marks-set, marks-step, set-done, set-seen}
 use Rattle.search.specs.Search.{Problem, State, due, via, cost, wins, close, expand}
+use Rattle.search.specs.Begun.{Begins}
 use Rattle.search.specs.Demands.{Fair, Legs}
 use Rattle.search.specs.Back.{Back, root, leg}
 use Rattle.search.proofs.Taking.{expand-mark, expand-expansions}
-use Rattle.search.proofs.Begins.{Begins}
 use Rattle.search.proofs.Completeness.{Good}
 use Rattle.search.proofs.Tidy.{Tidy}
 use Rattle.search.proofs.Entries.{Entry, entryOf, won, cond-of, kept, entry}

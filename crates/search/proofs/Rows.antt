@@ -13,7 +13,7 @@ use lib.Seq.{getD-set-same, getD-set-other}
 use borrow.Author.Tests.{eq-eqb, ne-eqb}
 use Rattle.reach.specs.Turns.{at}
 use Rattle.search.specs.Search.{Problem, Rank, sooner, rankOf, fOf, least}
-use Rattle.search.specs.Rows.{First, none, some, ranked, beats, RowOf, Champions, top, Entered, Rescanned}
+use Rattle.search.specs.Rows.{First, none, some, ranked, beats, RowOf, noKey, Champions, top, Entered, Rescanned}
 use Rattle.search.proofs.Order.{sooner-irrefl, sooner-lower}
 use Rattle.search.proofs.First.{first-on, first-unique, first-join, first-none, least-first, first-same, first-opened}
 
@@ -79,16 +79,18 @@ record Others (p : Problem) (wide rows y : ℕ) (g m champ key : List ℕ) : Typ
   room-k : rows ≤ length key
   first : (j : ℕ) → j < rows → j ≢ y → First p g m (j * wide) (j * wide + wide) (at champ j)
   keyed : (j : ℕ) → j < rows → j ≢ y → at champ j ≢ p .size → at key j ≡ fOf p g (at champ j)
+  blank : (j : ℕ) → j < rows → j ≢ y → at champ j ≡ p .size → at key j ≡ noKey
 
 module _ {p : Problem} {wide rows y : ℕ} {g m champ key : List ℕ} (O : Others p wide rows y g m champ key) where
   -- row y keeps its entries
   others-kept : First p g m (y * wide) (y * wide + wide) (at champ y) → (at champ y ≢ p .size → at key y ≡ fOf p g (at champ y))
-      → Champions p wide rows g m champ key
-  others-kept F k = record {
+      → (at champ y ≡ p .size → at key y ≡ noKey) → Champions p wide rows g m champ key
+  others-kept F k z = record {
     room-c = O .room-c;
     room-k = O .room-k;
     first = λ j l. one j l (ℕ-discrete j y);
     keyed = λ j l. two j l (ℕ-discrete j y);
+    blank = λ j l. three j l (ℕ-discrete j y);
   }
     where
       one : (j : ℕ) → j < rows → Dec (j ≡ y) → First p g m (j * wide) (j * wide + wide) (at champ j)
@@ -99,26 +101,38 @@ module _ {p : Problem} {wide rows y : ℕ} {g m champ key : List ℕ} (O : Other
       two j l (yes e) = rw e k
       two j l (no x) = O .keyed j l x
 
+      three : (j : ℕ) → j < rows → Dec (j ≡ y) → at champ j ≡ p .size → at key j ≡ noKey
+      three j l (yes e) = rw e z
+      three j l (no x) = O .blank j l x
+
   -- row y gets the champion r, with its f
-  others-set : y < rows → (r f : ℕ) → First p g m (y * wide) (y * wide + wide) r → (r ≢ p .size → f ≡ fOf p g r)
+  others-set : y < rows → (r f : ℕ) → First p g m (y * wide) (y * wide + wide) r → (r ≢ p .size → f ≡ fOf p g r) → (r ≡ p .size → f ≡ noKey)
       → Champions p wide rows g m (set champ y r) (set key y f)
-  others-set on r f F k = record {
+  others-set on r f F k z = record {
     room-c = rw length-set (O .room-c);
     room-k = rw length-set (O .room-k);
     first = λ j l. one j l (ℕ-discrete j y);
     keyed = λ j l. two j l (ℕ-discrete j y);
+    blank = λ j l. three j l (ℕ-discrete j y);
   }
     where
       here : at (set champ y r) y ≡ r
       here = getD-set-same champ y r 0 (omega (arith, O .room-c))
+
+      here-key : at (set key y f) y ≡ f
+      here-key = getD-set-same key y f 0 (omega (arith, O .room-k))
 
       one : (j : ℕ) → j < rows → Dec (j ≡ y) → First p g m (j * wide) (j * wide + wide) (at (set champ y r) j)
       one j l (yes e) = rw (e, here) F
       one j l (no x) = rw (getD-set-other champ y j r 0 x) (O .first j l x)
 
       two : (j : ℕ) → j < rows → Dec (j ≡ y) → at (set champ y r) j ≢ p .size → at (set key y f) j ≡ fOf p g (at (set champ y r) j)
-      two j l (yes e) = rw (e, here, getD-set-same key y f 0 (omega (arith, O .room-k))) k
+      two j l (yes e) = rw (e, here, here-key) k
       two j l (no x) = rw (getD-set-other champ y j r 0 x, getD-set-other key y j f 0 x) (O .keyed j l x)
+
+      three : (j : ℕ) → j < rows → Dec (j ≡ y) → at (set champ y r) j ≡ p .size → at (set key y f) j ≡ noKey
+      three j l (yes e) = rw (e, here, here-key) z
+      three j l (no x) = rw (getD-set-other champ y j r 0 x, getD-set-other key y j f 0 x) (O .blank j l x)
 
 -- the entries change at w only, which is in row y
 others-of : {p : Problem} {wide rows y w : ℕ} {g m champ key : List ℕ} → Champions p wide rows g m champ key → RowOf wide rows y w
@@ -130,17 +144,19 @@ others-of {p} {wide} {rows} {y} {w} {g} {m} {champ} {key} C R g′ m′ s = reco
   keyed = λ j l x q.
       let f = first-on (C .first j l) q in
       rw (s (at champ j) (apart R j (at champ j) x (f .0) (f .1)) .0) (C .keyed j l q);
+  blank = λ j l x. C .blank j l;
 }
 
 -- nothing is open but w, which is in row y, and the other rows have no champion
 others-none : {p : Problem} {wide rows y w : ℕ} → p .size ≡ rows * wide → RowOf wide rows y w → (g m champ key : List ℕ)
     → rows ≤ length champ → rows ≤ length key → ((v : ℕ) → v < p .size → v ≢ w → at m v ≢ 1)
-    → ((j : ℕ) → j < rows → at champ j ≡ p .size) → Others p wide rows y g m champ key
-others-none {p} {wide} {rows} {y} z R g m champ key rc rk n e = record {
+    → ((j : ℕ) → j < rows → at champ j ≡ p .size) → ((j : ℕ) → j < rows → at key j ≡ noKey) → Others p wide rows y g m champ key
+others-none {p} {wide} {rows} {y} z R g m champ key rc rk n e k = record {
   room-c = rc;
   room-k = rk;
-  first = λ j l x. none (e j l) (λ v i k. n v (omega (arith, rows-le wide rows j l)) (apart R j v x i k));
+  first = λ j l x. none (e j l) (λ v i h. n v (omega (arith, rows-le wide rows j l)) (apart R j v x i h));
   keyed = λ j l x q. absurd (q (e j l));
+  blank = λ j l x q. k j l;
 }
 
 -- ---- the changes that the search makes
@@ -150,23 +166,22 @@ pub champions-close : {p : Problem} {wide rows y u : ℕ} {g m champ key champ�
     → RowOf wide rows y u → Rescanned p wide y g (set m u 2) champ key champ′ key′ → Champions p wide rows g (set m u 2) champ′ key′
 champions-close {u = u} {g = g} {m = m} C R S =
     rw (S .champ-is, S .key-is)
-    (others-set (others-of C R g (set m u 2) (λ v x. (refl, getD-set-other m u v 2 0 x))) (R .on) (S .least) (S .f) (S .is) (S .right))
+    (others-set (others-of C R g (set m u 2) (λ v x. (refl, getD-set-other m u v 2 0 x))) (R .on) (S .least) (S .f) (S .is) (S .right)
+    (S .blank))
 
--- at the beginning w alone is open, no row has a champion, and the row of w is looked through
-pub champions-fresh : {p : Problem} {wide rows y w : ℕ} {g m champ key champ′ key′ : List ℕ} → p .size ≡ rows * wide → RowOf wide rows y w
-    → rows ≤ length champ → rows ≤ length key → ((v : ℕ) → v < p .size → v ≢ w → at m v ≢ 1) → ((j : ℕ) → j < rows → at champ j ≡ p .size)
-    → Rescanned p wide y g m champ key champ′ key′ → Champions p wide rows g m champ′ key′
-champions-fresh {g = g} {m = m} {champ = champ} {key = key} z R rc rk n e S =
-    rw (S .champ-is, S .key-is) (others-set (others-none z R g m champ key rc rk n e) (R .on) (S .least) (S .f) (S .is) (S .right))
-
--- or the row of w is given w, with its f
+-- at the beginning w alone is open, no row has a champion, and the row of w is given w, with its f
 pub champions-start : {p : Problem} {wide rows y w : ℕ} {g m : List ℕ} (champ key : List ℕ) → p .size ≡ rows * wide → RowOf wide rows y w
     → rows ≤ length champ → rows ≤ length key → at m w ≡ 1 → ((v : ℕ) → v < p .size → v ≢ w → at m v ≢ 1)
-    → ((j : ℕ) → j < rows → at champ j ≡ p .size) → Champions p wide rows g m (set champ y w) (set key y (fOf p g w))
-champions-start {p} {wide} {rows} {y} {w} {g} {m} champ key z R rc rk o n e =
-    others-set (others-none z R g m champ key rc rk n e) (R .on) w (fOf p g w)
+    → ((j : ℕ) → j < rows → at champ j ≡ p .size) → ((j : ℕ) → j < rows → at key j ≡ noKey)
+    → Champions p wide rows g m (set champ y w) (set key y (fOf p g w))
+champions-start {p} {wide} {rows} {y} {w} {g} {m} champ key z R rc rk o n e b =
+    others-set (others-none z R g m champ key rc rk n e b) (R .on) w (fOf p g w)
     (some (R .low) (R .high) o (λ v i j k t. alone v j k t (ℕ-discrete v w))) (λ d. refl)
+    (λ x. absurd (not-size x))
   where
+    not-size : w ≢ p .size
+    not-size x = omega (arith, R .high, rows-le wide rows y (R .on))
+
     alone : (v : ℕ) → v < y * wide + wide → at m v ≡ 1 → sooner (rankOf p g v) (rankOf p g w) ≡ true → Dec (v ≡ w) → ⊥
     alone v j k t (yes x) = sooner-irrefl (rankOf p g w) (rw x at t)
     alone v j k t (no x) = n v (omega (arith, rows-le wide rows y (R .on))) x k
@@ -174,7 +189,7 @@ champions-start {p} {wide} {rows} {y} {w} {g} {m} champ key z R rc rk o n e =
 -- w opens, or its g falls to c, and it stands against the champion of its row
 pub champions-look : {p : Problem} {wide rows y w : ℕ} {g m champ key champ′ key′ : List ℕ} → p .size ≡ rows * wide
     → Champions p wide rows g m champ key → RowOf wide rows y w → (c : ℕ) → p .size ≤ length g → p .size ≤ length m → (at m w ≡ 1 → c < at g w)
-    → Entered p g y (ranked (c + p .len w (p .goal)) c w) champ key champ′ key′ → Champions p wide rows (set g w c) (set m w 1) champ′ key′
+    → Entered (p .size) g y (ranked (c + p .len w (p .goal)) c w) champ key champ′ key′ → Champions p wide rows (set g w c) (set m w 1) champ′ key′
 champions-look {p} {wide} {rows} {y} {w} {g} {m} {champ} {key} sized C R c lg lm d E = rw (E .champ-is, E .key-is) (go (ℕ-discrete r (p .size)))
   where
     r : ℕ
@@ -202,11 +217,14 @@ champions-look {p} {wide} {rows} {y} {w} {g} {m} {champ} {key} sized C R c lg lm
 
     -- w takes the row
     won : First p g′ m′ (y * wide) (y * wide + wide) w → Champions p wide rows g′ m′ (set champ y w) (set key y (new .f))
-    won F = others-set others (R .on) w (new .f) F (λ _. rw (getD-set-same g w c 0 (omega (arith, on))) refl)
+    won F = others-set others (R .on) w (new .f) F (λ _. rw (getD-set-same g w c 0 (omega (arith, on))) refl) (λ x. absurd (not-size x))
+      where
+        not-size : w ≢ p .size
+        not-size x = omega (arith, on)
 
     -- the champion stays; it is not w, for w would have beaten it
     lost : sooner new (rankOf p g r) ≡ false → r ≢ p .size → First p g′ m′ (y * wide) (y * wide + wide) r → Champions p wide rows g′ m′ champ key
-    lost x o F = others-kept others F (λ _. rw (getD-set-other g w r c 0 not-w) (C .keyed y (R .on) o))
+    lost x o F = others-kept others F (λ _. rw (getD-set-other g w r c 0 not-w) (C .keyed y (R .on) o)) (λ z. absurd (o z))
       where
         not-w : r ≢ w
         not-w q =

@@ -10,9 +10,10 @@ use lib.ListN.{length, set, length-set, length-replicate}
 use lib.Seq.{getD-set-same, getD-set-other}
 use Rattle.reach.specs.Turns.{at}
 use Rattle.search.specs.Search.{Problem, State, initial, due, via, cost, wins, store, relax, around, close, expand, search}
+use Rattle.search.specs.Begun.{Begins}
 use Rattle.search.specs.Demands.{Fair, Work}
 use Rattle.search.proofs.Choosing.{choose-vertex}
-use Rattle.search.proofs.Begins.{Begins, begins-initial}
+use Rattle.search.proofs.Begins.{begins-initial}
 use Rattle.search.proofs.Completeness.{Kept, search-keep, search-stopped}
 
 -- ---- whatever looking at one vertex keeps, looking at all keeps

@@ -8,7 +8,7 @@ use native.Mathlib.Omega.{arith}
 use native.Mathlib.Numerals.{add-one}
 use lib.Dec.{eqb, ltb}
 use lib.ListN.{set, length-set}
-use borrow.Author.Tests.{eqb-true, eq-eqb, ne-eqb}
+use borrow.Author.Tests.{eqb-true, eq-eqb, ne-eqb, ltb-true}
 use Rattle.laws.proofs.Tests.{and-false}
 use Rattle.reach.specs.Turns.{at, doneIn, vertex, Result}
 use Rattle.reach.proofs.Counting.{count-le}
@@ -44,6 +44,10 @@ module _ (p : Problem) (u w : ℕ) (g parent mark : List ℕ) (t : ℕ) where
 
     pub look-lost : (eqb (at mark w) 0 || ltb a (at g w)) ≡ false → Looked p u w g parent mark t g parent mark (t + 1)
     look-lost x = record { is = λ e. rw (h, ne-eqb (at mark w) 2 d, ← ec, ← ea, x) refl }
+
+-- an open vertex wins by a smaller g
+pub fell : (m c old : ℕ) → (eqb m 0 || ltb c old) ≡ true → m ≡ 1 → c < old
+fell m c old h e = ltb-true c old (rw e at h)
 
 -- the candidate parent is on the board, and its g is bounded
 pub ready-candidate : {p : Problem} {most u : ℕ} {g parent mark : List ℕ} → Ready p most u g parent mark → (w c : ℕ)
@@ -110,12 +114,17 @@ module _ {p : Problem} {u k : ℕ} {g parent mark : List ℕ} {t : ℕ} {g′ pa
         eqb-true (at mark′ v) 2
         (ap (λ (x : List ℕ). doneIn x v) mark-is ∙ turned-done (p .near) u mark k v (omega (arith, D .room-m)) ∙ eq-eqb (at mark v) 2 d)
 
+    -- the taken vertex keeps its parent
+    pub rounded-parent : at parent′ u ≡ at parent u
+    unfolding now before
+    rounded-parent = ap (λ (x : Entry). x .parent) (fixed u (D .done))
+
     -- the taken vertex stays ready
     pub rounded-ready : Ready p most u g′ parent′ mark′
     unfolding now before
     rounded-ready =
         let a = fixed u (D .done) in
-        let q : at parent′ u ≡ at parent u = ap (λ (x : Entry). x .parent) a in
+        let q = rounded-parent in
         let c = fixed (at parent u) (D .done-parent) in
         let size = rounded-sizes in
         record {

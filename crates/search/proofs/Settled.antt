@@ -1,0 +1,34 @@
+-- A vertex that gets a g and a parent: the open list and the margins stay right. Assumes nothing.
+use mathlib.Core.Path.{_≡_, refl}
+use mathlib.Core.List.{List}
+use Prim.Native.Nat.{ℕ, _+_, _-_, _≤_, _<_}
+use native.Mathlib.Omega.{arith}
+use lib.ListN.{length}
+use Rattle.reach.specs.Turns.{at}
+use Rattle.search.specs.declared.Request.{Request}
+use Rattle.search.specs.declared.Spot.{Spot}
+use Rattle.search.specs.Request.{problem, boardOf, asked, sizeOf, Asked, Placed}
+use Rattle.search.specs.Rows.{ranked, Entered}
+use Rattle.search.specs.Lengths.{Known}
+use Rattle.search.specs.Round.{Arrays, Settled}
+use Rattle.search.proofs.Rows.{champions-look}
+use Rattle.search.proofs.Margin.{margins-open}
+use Rattle.search.proofs.Places.{sized, len-goal, placed-of-row}
+
+pub settled-arrays : {cells : List ℕ} {q : Request} {w : Spot} {c own : ℕ} {g parent mark champ key margins table : List ℕ}
+    {g′ parent′ mark′ champ′ key′ margins′ table′ : List ℕ} → Asked cells q → Placed (boardOf cells q) w → sizeOf q ≤ length g → sizeOf q ≤ length mark
+    → (at mark (w .number) ≡ 1 → own < at g (w .number)) → Arrays cells q g mark champ key margins table
+    → Settled q w c own g parent mark champ key margins g′ parent′ mark′ champ′ key′ margins′ → Known table′
+    → Arrays cells q g′ mark′ champ′ key′ margins′ table′
+unfolding problem
+settled-arrays {cells} {q} {w} {own = own} {g = g} {champ = champ} {key = key} {champ′ = champ′} {key′ = key′} A P lg lm d R S K = record {
+  champions =
+      let E : Entered (sizeOf q) g (w .y) (ranked (own + (asked cells q) .len (w .number) ((asked cells q) .goal)) own (w .number)) champ key champ′ key′ =
+      rw (len-goal cells q A P) (S .entered) in
+      rw (S .g-is, S .mark-is) (champions-look (sized cells q) (R .champions) (placed-of-row P) own lg lm d E);
+  margined =
+      rw (S .mark-is, P .numbered)
+      (margins-open (R .margined) (w .y) (w .x) (q .width - w .x) (omega (arith, P .on .y-on)) (omega (arith, P .on .x-on)) (omega (arith, P .on .x-on))
+      (S .left-out));
+  known = K;
+}
