@@ -23,3 +23,4 @@ pub mod Settled
 pub mod Passed
 pub mod Asked
 pub mod Finding
+pub mod Theorems

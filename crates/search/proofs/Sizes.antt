@@ -27,6 +27,10 @@ module _ (width height : ℕ) (w : width ≤ side) (h : height ≤ side) where
   pub largest-fits : largest width height + longest width height < 2 ^ 63
   largest-fits = lt-of-le-of-lt (add-le-add (mul-le-mul vertices-most longest-le) longest-le) (lit< tt)
 
+  -- a path's units are a whole number that an f64 holds
+  pub largest-exact : largest width height < 2 ^ 53
+  largest-exact = lt-of-le-of-lt (mul-le-mul vertices-most longest-le) (lit< tt)
+
   -- every test of the largest number of turns, and those of one round more
   pub tests-fit : (width + 1) * (height + 1) * ((width + 1) * (height + 1)) < 2 ^ 62
   tests-fit = lt-of-le-of-lt (mul-le-mul vertices-most vertices-most) (lit< tt)

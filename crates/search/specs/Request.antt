@@ -1,12 +1,15 @@
 -- Document 01's board as a problem for the search: vertices by their numbers. And a request, as the code hands it on.
 use mathlib.Core.Path.{_≡_}
 use mathlib.Core.Bool.{Bool}
-use mathlib.Core.List.{List}
-use Prim.Native.Nat.{ℕ, _+_, _*_, _≤_}
+use mathlib.Core.List.{List, [], _∷_}
+use Prim.Native.Nat.{ℕ, _+_, _-_, _*_, _^_, _≤_, _<_}
+use lib.ListN.{length}
 use Rattle.board.specs.Limits.{side}
 use Rattle.board.specs.Board.{Board, board, vertices, number, column, row, Sound, OnBoard}
 use Rattle.length.specs.Legs.{step}
-use Rattle.length.specs.Units.{units, unitsPerCell}
+use Rattle.length.specs.Root.{root, Bounds}
+use Rattle.length.specs.Units.{square, units, unitsPerCell}
+use Rattle.reach.specs.Turns.{at}
 use Rattle.sight.specs.Sight.{sees}
 use Rattle.sight.specs.Neighbours.{visible}
 use Rattle.search.specs.declared.Request.{Request}
@@ -37,6 +40,26 @@ longest width height = (width + height) * unitsPerCell
 
 abbrev pub largest : (width height : ℕ) → ℕ
 largest width height = (width + 1) * (height + 1) * longest width height
+
+-- ---- a path's units against its true length, in whole numbers
+
+-- dx² + dy² of the leg between the vertices numbered u and v
+abbrev pub squareFrom : Board → (u v : ℕ) → ℕ
+squareFrom b u v = square (step (column b u) (column b v)) (step (row b u) (row b v))
+
+-- the legs of a path in a finer measure, with m marks to a unit, each rounded down
+abbrev pub marksAlong : (m : ℕ) → Board → List ℕ → ℕ
+marksAlong m b [] = 0
+marksAlong m b (v ∷ []) = 0
+marksAlong m b (v ∷ (w ∷ l)) = root (m * m * (squareFrom b v w * 2 ^ 40)) + marksAlong m b (w ∷ l)
+
+-- leg by leg, u² is at most (dx² + dy²) × 2^40, and (u + 1)² is above it; and for the whole path, however fine the measure, the
+-- units are at most the length and less than one unit per leg below it; with no leg both are 0
+pub record Measured (b : Board) (path : List ℕ) (units : ℕ) : Type 0 where
+  pub each : (i : ℕ) → i + 1 < length path → Bounds (squareFrom b (at path i) (at path (i + 1)) * 2 ^ 40) (unitsFrom b (at path i) (at path (i + 1)))
+  pub at-most : (m : ℕ) → m * units ≤ marksAlong m b path
+  pub above : (m : ℕ) → 0 < m → 1 < length path → marksAlong m b path < m * (units + (length path - 1))
+  pub none : (m : ℕ) → length path ≤ 1 → (units ≡ 0) × (marksAlong m b path ≡ 0)
 
 -- ---- the code's request
 

@@ -1,0 +1,119 @@
+-- `router::route` answers by the rows 1 to 8, and leaves in the slices what they say.
+use mathlib.Core.Path.{_≡_, sym, ap, _∙_}
+use native.Mathlib.Omega.{arith}
+use borrow.Author.Needs.{needs}
+use denote.Ref.{now}
+use Rattle.board.specs.Board.{Board, board, Sound}
+use Rattle.board.specs.Paper.{accepted, legRows}
+use Rattle.board.specs.Paper as checks
+use Rattle.board.proofs.Numbers.{vertices-few}
+use Rattle.board.proofs.Rows.{leg-sound, leg-first, leg-second}
+use Rattle.router.proofs.Routing.{rooms, not-accepted, routed-refused, routed-short, routed-ran}
+use Rattle.router.proofs.route.Statement.{statement}
+use Rattle.router.proofs.route.Tie as tie
+use Rattle.router.proofs.route.Reads as reads
+use Rattle.router.proofs.route.Lts as lts
+use Rattle.board.proofs.check_leg.Reads as check-leg-reads
+use Rattle.router.proofs.refused.Reads as refused-reads
+use Rattle.router.proofs.search_route.Reads as search-route-reads
+
+-- the request
+abbrev began : tie.After-check-leg → tie.Start
+began c = c .before .before .before .before .before .before
+
+abbrev asked : tie.Start → Board
+asked s = board (now (s .args .cells)) (s .args .width) (s .args .height)
+
+check-leg-requires : tie.Need-check-leg-requires
+check-leg-requires c κs = search needs
+
+enum-told : tie.Need-enum-told
+enum-told c = search needs
+
+refused-requires : tie.Need-refused-requires
+refused-requires c κs = not-accepted (c .before .check-leg .result) (c .match .keys2)
+
+returns : tie.Need-returns
+returns c =
+    let k = c .before .before in
+    let s = began k in
+    routed-refused (asked s) (s .args .sx) (s .args .sy) (s .args .gx) (s .args .gy) (now (s .args .g)) (now (s .args .parents)) (now (s .args .marks)) (now (s .args .path))
+    (k .check-leg .result) (c .before .match .keys2) _ (c .refused .ensures) (k .check-leg .ensures)
+
+-- it passes the checks 1 to 5, on a sound board
+passes : (c : tie.After-enum-told) →
+    let s = began (c .before .before) in legRows (asked s) (s .args .sx) (s .args .sy) (s .args .gx) (s .args .gy) accepted ≡ accepted
+passes c = sym (c .before .before .check-leg .ensures) ∙ ap checks.handed (c .enum-told .given .1)
+
+sound : (c : tie.After-enum-told) → Sound (asked (began (c .before .before)))
+sound c = leg-sound _ _ _ _ _ (passes c)
+
+add-vertices : tie.Need-add-vertices
+add-vertices c = omega (arith, sound c .narrow)
+
+add-vertices-2 : tie.Need-add-vertices-2
+add-vertices-2 c = omega (arith, sound c .low)
+
+mul-vertices : tie.Need-mul-vertices
+mul-vertices c =
+    let s = began (c .before .before) in
+    omega (arith, vertices-few (s .args .width) (s .args .height) (sound c .narrow) (sound c .low))
+
+returns-2 : tie.Need-returns-2
+returns-2 c =
+    let s = began (c .before .before .before) in
+    routed-short (asked s) (s .args .sx) (s .args .sy) (s .args .gx) (s .args .gy) (now (s .args .g)) (now (s .args .parents)) (now (s .args .marks)) (now (s .args .path))
+    (passes (c .before)) (c .if1 .taken)
+
+search-route-requires : tie.Need-search-route-requires
+search-route-requires c κs =
+    let e = c .before .before .before .before in
+    let k = e .before in
+    let r = rooms _ _ _ _ (e .if1 .left) in
+    record {
+      sound = sound k;
+      start = leg-first _ _ _ _ _ (passes k);
+      goal = leg-second _ _ _ _ _ (passes k);
+      g-room = r .0;
+      parents-room = r .1;
+      marks-room = r .2;
+    }
+
+same-length : tie.Need-same-length
+same-length c = search needs
+
+same-length-2 : tie.Need-same-length-2
+same-length-2 c = search needs
+
+same-length-3 : tie.Need-same-length-3
+same-length-3 c = search needs
+
+same-length-4 : tie.Need-same-length-4
+same-length-4 c = search needs
+
+returns-3 : tie.Need-returns-3
+returns-3 c =
+    let q = c .before .before .before .before .before .before .before .before in
+    let e = q .before .before .before .before .before in
+    let s = began (e .before .before .before) in
+    routed-ran (asked s) (s .args .sx) (s .args .sy) (s .args .gx) (s .args .gy) (now (s .args .g)) (now (s .args .parents)) (now (s .args .marks)) (now (s .args .path))
+    (passes (e .before)) _ _ _ _ _ (e .if1 .left) (q .search-route .ensures)
+
+pub route-spec : {M : Type 1} → statement M
+route-spec =
+    tie.close
+    (tie.spec
+    check-leg-requires
+    enum-told
+    refused-requires
+    returns
+    add-vertices
+    add-vertices-2
+    mul-vertices
+    returns-2
+    search-route-requires
+    same-length
+    same-length-2
+    same-length-3
+    same-length-4
+    returns-3)

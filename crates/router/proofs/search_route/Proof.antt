@@ -1,0 +1,127 @@
+-- `router::search_route` searches, and tells the path that it found.
+use mathlib.Core.Path.{_≡_, sym, ap, _∙_}
+use mathlib.Core.Bool.{true}
+use native.Mathlib.Omega.{arith}
+use borrow.Author.Needs.{needs}
+use borrow.Author.Tests.{not-true, not-false}
+use denote.Ref.{now}
+use Rattle.board.specs.Board.{Board, board, number}
+use Rattle.board.proofs.Numbers.{number-below}
+use Rattle.search.specs.Search as theta
+use Rattle.search.specs.Demands.{Work, Searched}
+use Rattle.search.specs.Request.{problem}
+use Rattle.search.proofs.Theorems.{board-work, found-traced, found-path, found-units, found-exact}
+use Rattle.router.proofs.Routing.{as-found, g-room, ran-none, ran-told}
+use Rattle.router.proofs.search_route.Statement.{statement}
+use Rattle.router.proofs.search_route.Tie as tie
+use Rattle.router.proofs.search_route.Reads as reads
+use Rattle.router.proofs.search_route.Lts as lts
+use Rattle.board.proofs.inner.number_of.Reads as number-of-reads
+use Rattle.router.proofs.tell_path.Reads as tell-path-reads
+use Rattle.search.proofs.inner.find.Reads as find-reads
+
+-- where the search has run, and where it began
+abbrev began : tie.After-find → tie.Start
+began c = c .before .before .before .before .before .before .before .before .before
+
+abbrev asked : tie.Start → Board
+asked s = board (now (s .args .cells)) (s .args .width) (s .args .height)
+
+work : (c : tie.After-find) → let s = began c in let p = problem (asked s) (s .args .sx) (s .args .sy) (s .args .gx) (s .args .gy) in Work p (theta.search p .state)
+work c = let s = began c in board-work (asked s) (s .args .sx) (s .args .sy) (s .args .gx) (s .args .gy) (s .pre .start)
+
+find-requires : tie.Need-find-requires
+find-requires c κs = search needs
+
+same-length : tie.Need-same-length
+same-length c = search needs
+
+same-length-2 : tie.Need-same-length-2
+same-length-2 c = search needs
+
+same-length-3 : tie.Need-same-length-3
+same-length-3 c = search needs
+
+returns : tie.Need-returns
+returns c =
+    let k = c .before .before .before .before .before .before .before .before in
+    ran-none (work k) (k .find .ensures) (now (began k .args .path)) (not-true _ (c .if1 .taken))
+
+abbrev ran : tie.Else1 → tie.After-find
+ran c = c .before .before .before .before .before .before .before .before
+
+number-of-requires : tie.Need-number-of-requires
+number-of-requires c κs = search needs
+
+number-of-requires-2 : tie.Need-number-of-requires-2
+number-of-requires-2 c κs = search needs
+
+cast-units : tie.Need-cast-units
+cast-units c = search needs
+
+mul-units : tie.Need-mul-units
+mul-units c = search needs
+
+slice-read-units : tie.Need-slice-read-units
+unfolding problem
+slice-read-units c =
+    let k = ran (c .before .before .before) in
+    let s = began k in
+    omega (arith, c .before .number-of2 .ensures, number-below (s .args .width) (s .args .height) (s .args .gx) (s .args .gy) (s .pre .goal .x-on) (s .pre .goal .y-on), g-room (work k) (k .find .ensures))
+
+tell-path-requires : tie.Need-tell-path-requires
+tell-path-requires c κs =
+    let e = c .before .before .before .before .before in
+    let k = ran e in
+    let s = began k in
+    let F = as-found (not-false _ (e .if1 .left)) (k .find .ensures) in
+    rw (c .before .before .before .before .number-of .ensures, c .before .before .before .number-of2 .ensures)
+    (found-traced (s .pre .start) (s .args .gx) (s .args .gy) F, found-exact (s .pre .start) (s .args .gx) (s .args .gy) F (s .pre .sound))
+
+same-length-4 : tie.Need-same-length-4
+same-length-4 c = search needs
+
+same-length-5 : tie.Need-same-length-5
+same-length-5 c = search needs
+
+same-length-6 : tie.Need-same-length-6
+same-length-6 c = search needs
+
+same-length-7 : tie.Need-same-length-7
+same-length-7 c = search needs
+
+returns-2 : tie.Need-returns-2
+unfolding problem
+returns-2 c =
+    let t = c .before .before in
+    let e = t .before .before .before .before .before .before in
+    let k = ran e in
+    let s = began k in
+    let y = not-false _ (e .if1 .left) in
+    let F = as-found y (k .find .ensures) in
+    let n = t .before .before .before .before .before in
+    let m = t .before .before .before .before in
+    ran-told (work k) (k .find .ensures) y (t .tell-path .ensures)
+    (rw (n .number-of .ensures, m .number-of2 .ensures) (found-path (s .pre .start) (s .args .gx) (s .args .gy) F))
+    (rw (m .number-of2 .ensures) (found-units (s .pre .start) (s .args .gx) (s .args .gy) F))
+
+pub search-route-spec : {M : Type 1} → statement M
+search-route-spec =
+    tie.close
+    (tie.spec
+    find-requires
+    same-length
+    same-length-2
+    same-length-3
+    returns
+    number-of-requires
+    number-of-requires-2
+    cast-units
+    mul-units
+    slice-read-units
+    tell-path-requires
+    same-length-4
+    same-length-5
+    same-length-6
+    same-length-7
+    returns-2)
