@@ -1,17 +1,17 @@
 -- What the layers above may build on: an accepted job's board is sound, and no request built from its nets is refused by 1 to 5. Assumes nothing.
-use mathlib.Core.Path.{_≡_, refl, sym, ap, _∙_}
+use mathlib.Core.Path.{_≡_, sym, ap, _∙_}
 use mathlib.Core.Logic.{⊎-elim}
 use mathlib.Core.Bool.{cond}
 use mathlib.Core.List.{List, [], _∷_, _++_}
 use Prim.Native.Nat.{ℕ, _*_, _≤_, _<_}
 use native.Mathlib.Omega.{arith}
-use lib.Dec.{leb, ltb, eqb}
+use lib.Dec.{ltb}
 use lib.ListN.{length, take, drop}
 use lib.Seq.{take-at, drop-at}
-use borrow.Author.Tests.{lt-ltb, le-ltb, lt-leb, le-leb}
+use borrow.Author.Tests.{lt-ltb, le-ltb, lt-leb}
 use Rattle.laws.proofs.Tests.{order, and-both}
 use Rattle.board.specs.Board.{board, Sound}
-use Rattle.board.specs.Paper.{Handed, refusal, answer, firstBad, boardRows, legRows}
+use Rattle.board.specs.Paper.{Handed, refusal, answer, boardRows, legRows}
 use Rattle.board.proofs.Rows.{side-least, side-le, rows-pass, ends-pass}
 use Rattle.job.specs.Job.{byte, width, height, cellsOf, nets, netRecord, Accepted}
 use Rattle.job.specs.Paper.{boardRow, boardLeft, BoardRead, netOf, foundNet, netRow}

@@ -11,8 +11,8 @@ use Rattle.job.specs.declared.JobRefusal.the-variants.{Long, Uneven, Ord
 use Rattle.job.specs.declared.BoardAnswer.{BoardAnswer}
 use Rattle.job.specs.declared.BoardAnswer.the-variants as board-read
 use Rattle.job.specs.declared.NetAnswer.{NetAnswer}
-use Rattle.job.specs.declared.NetAnswer.the-variants as nets-read
-use Rattle.job.specs.Paper.{handedRefusal, handedBoard, handedNet, netRow, BoardRead}
+use Rattle.job.specs.declared.NetAnswer.the-variants as net-read
+use Rattle.job.specs.Paper.{handedBoard, handedNet, netRow, BoardRead}
 
 -- the refusal that hands this back
 refusal-from : Handed → JobRefusal
@@ -36,8 +36,8 @@ board-from h =
 
 net-from : Handed → NetAnswer
 net-from h =
-    cond (eqb (h .number) 0) (nets-read.Net (value h 0) (value h 1) (value h 2) (value h 3) (value h 4))
-    (cond (eqb (h .number) 20) nets-read.NoNet (nets-read.Refused (refusal-from h)))
+    cond (eqb (h .number) 0) (net-read.Net (value h 0) (value h 1) (value h 2) (value h 3) (value h 4))
+    (cond (eqb (h .number) 20) net-read.NoNet (net-read.Refused (refusal-from h)))
 
 board-back : (r : BoardAnswer) → board-from (handedBoard r) ≡ r
 unfolding board-from refusal-from value
@@ -55,17 +55,17 @@ board-back board-read.Short = refl
 
 net-back : (r : NetAnswer) → net-from (handedNet r) ≡ r
 unfolding net-from refusal-from value
-net-back (nets-read.Net n a b c d) = refl
-net-back (nets-read.Refused Long) = refl
-net-back (nets-read.Refused Uneven) = refl
-net-back (nets-read.Refused (Order i)) = refl
-net-back (nets-read.Refused (Stray i)) = refl
-net-back (nets-read.Refused (Side i)) = refl
-net-back (nets-read.Refused (Keepout i)) = refl
-net-back (nets-read.Refused (End i)) = refl
-net-back (nets-read.Refused (Number i)) = refl
-net-back (nets-read.Refused (Late i)) = refl
-net-back nets-read.NoNet = refl
+net-back (net-read.Net n a b c d) = refl
+net-back (net-read.Refused Long) = refl
+net-back (net-read.Refused Uneven) = refl
+net-back (net-read.Refused (Order i)) = refl
+net-back (net-read.Refused (Stray i)) = refl
+net-back (net-read.Refused (Side i)) = refl
+net-back (net-read.Refused (Keepout i)) = refl
+net-back (net-read.Refused (End i)) = refl
+net-back (net-read.Refused (Number i)) = refl
+net-back (net-read.Refused (Late i)) = refl
+net-back net-read.NoNet = refl
 
 -- of `read_board`: the answer and what the slice holds
 pub board-determined : {job lent : List ℕ} (r s : BoardAnswer) {left right : List ℕ}

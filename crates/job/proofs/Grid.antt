@@ -10,19 +10,18 @@ use lib.Dec.{leb, ltb, eqb}
 use lib.ListN.{length, getD, drop, length-append, length-drop, List·getD-append}
 use lib.Seq.{ext-getD, getD-drop, getD-append-add, getD-at}
 use borrow.Author.Tests.{lt-ltb, le-ltb, le-leb, ne-eqb}
-use Rattle.laws.proofs.Tests.{order, bool-cases, and-false, and-both}
+use Rattle.laws.proofs.Tests.{order, bool-cases, and-false}
 use Rattle.laws.proofs.Below.{some-none}
 use Rattle.board.specs.Limits.{side}
-use Rattle.board.specs.Board.{board, Sound}
-use Rattle.board.specs.Paper.{Handed, refusal, answer, firstBad, boardRows, legRows}
-use Rattle.board.proofs.Rows.{side-least, side-le, cells-few, rows-pass, ends-pass}
+use Rattle.board.specs.Paper.{refusal, answer, firstBad}
+use Rattle.board.proofs.Rows.{side-least, cells-few}
 use Rattle.job.specs.declared.steps.Progress.{Progress}
-use Rattle.job.specs.Job.{records, byte, width, height, isKeepout, covers, inKeepout, cellsUpTo, cellsOf, Accepted, nets, netRecord}
+use Rattle.job.specs.Job.{records, byte, width, height, isKeepout, covers, inKeepout, cellsUpTo, cellsOf, Accepted, nets}
 use Rattle.job.specs.Paper.{BoardRead}
 use Rattle.job.specs.Steps.{told, readUpTo, Filled, Painted}
 use Rattle.job.proofs.Judging.{width-read, height-read, nets-read}
 use Rattle.job.proofs.Rows.{board-short, board-done}
-use Rattle.job.proofs.Accepted.{width-fits, height-fits, keepout-below, start-on, goal-on, net-record-below, net-record-is}
+use Rattle.job.proofs.Accepted.{width-fits, height-fits, keepout-below}
 
 -- ---- the list of cells
 

@@ -83,18 +83,20 @@ module _ (job : List ℕ) (i : ℕ) where
     neat : isUntidy job i ≡ false
     neat = tidiness ∙ le-ltb (firstWhere recordBytes (isStrayByte job i)) recordBytes tidy
 
-    pub says-board : byte job i 0 ≡ 1 → recordAt job i ≡ Board (byte job i 2) (byte job i 3)
+    -- with its numbers as they were read
+    pub says-board : {w h : ℕ} → byte job i 0 ≡ 1 → w ≡ byte job i 2 → h ≡ byte job i 3 → Board w h ≡ recordAt job i
     unfolding recordAt isUnknown
-    says-board t = rw (neat, t)
+    says-board t x y = rw (x, y, neat, t)
 
-    pub says-keepout : byte job i 0 ≡ 2 → recordAt job i ≡ Keepout (byte job i 2) (byte job i 3) (byte job i 4) (byte job i 5)
+    pub says-keepout : {a b c d : ℕ} → byte job i 0 ≡ 2 → a ≡ byte job i 2 → b ≡ byte job i 3 → c ≡ byte job i 4 → d ≡ byte job i 5
+        → Keepout a b c d ≡ recordAt job i
     unfolding recordAt isUnknown
-    says-keepout t = rw (neat, t)
+    says-keepout t x y x′ y′ = rw (x, y, x′, y′, neat, t)
 
-    pub says-net : byte job i 0 ≡ 3
-        → recordAt job i ≡ Net (byte job i 1) (byte job i 2) (byte job i 3) (byte job i 4) (byte job i 5)
+    pub says-net : {n a b c d : ℕ} → byte job i 0 ≡ 3 → n ≡ byte job i 1 → a ≡ byte job i 2 → b ≡ byte job i 3 → c ≡ byte job i 4
+        → d ≡ byte job i 5 → Net n a b c d ≡ recordAt job i
     unfolding recordAt isUnknown
-    says-net t = rw (neat, t)
+    says-net t m x y x′ y′ = rw (m, x, y, x′, y′, neat, t)
 
     pub says-unknown : (byte job i 0 ≡ 1 → ⊥) → (byte job i 0 ≡ 2 → ⊥) → (byte job i 0 ≡ 3 → ⊥) → recordAt job i ≡ Stray
     unfolding recordAt isUnknown

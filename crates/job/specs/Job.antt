@@ -6,8 +6,6 @@ use mathlib.Core.List.{List, [], _∷_, _++_}
 use lib.Dec.{leb, ltb, eqb}
 use lib.ListN.{length, getD}
 use Rattle.laws.specs.Below.{some, howMany, firstWhere}
-use Rattle.board.specs.Limits.{side}
-use Rattle.board.specs.Board.{board}
 use Rattle.board.specs.Paper.{sideFits}
 
 -- a record's bytes, and how many records there are
@@ -83,7 +81,6 @@ netBefore job (suc i) = cond (isNet job i) (byte job i 1) (netBefore job i)
 
 -- 17: a net number not above the one before
 unfoldable pub isUnordered : List ℕ → ℕ → Bool
-unfolding netBefore
 isUnordered job i = leb (byte job i 1) (netBefore job i)
 
 -- 16: a net end off the board: bytes 2, 3 are the start, 4, 5 the goal
@@ -120,7 +117,7 @@ pub record Accepted (job : List ℕ) : Type 0 where
 
 -- ---- what an accepted job means
 
--- cell (x, y) is in a keepout: in the rectangle of some record
+-- cell (x, y) is in a rectangle, in the keepout of record i, in some keepout
 abbrev pub inside : (left top right bottom x y : ℕ) → Bool
 inside left top right bottom x y = (leb left x && ltb x right) && (leb top y && ltb y bottom)
 

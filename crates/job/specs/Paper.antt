@@ -11,8 +11,10 @@ use Rattle.job.specs.declared.JobRefusal.the-variants.{Long, Uneven, Ord
 use Rattle.job.specs.declared.BoardAnswer.{BoardAnswer}
 use Rattle.job.specs.declared.BoardAnswer.the-variants as board-read
 use Rattle.job.specs.declared.NetAnswer.{NetAnswer}
-use Rattle.job.specs.declared.NetAnswer.the-variants as nets-read
+use Rattle.job.specs.declared.NetAnswer.the-variants as net-read
 use Rattle.job.specs.Job.{recordBytes, longestJob, records, byte, width, height, fault, firstFault, cellsOf, nets, netRecord}
+
+-- ---- what each answer hands back
 
 abbrev pub handedRefusal : JobRefusal → Handed
 handedRefusal Long = refusal 10 0
@@ -33,9 +35,9 @@ handedBoard board-read.Short = refusal 19 0
 
 -- a net read: number, start and goal
 abbrev pub handedNet : NetAnswer → Handed
-handedNet (nets-read.Net n sx sy gx gy) = answer (n ∷ sx ∷ sy ∷ gx ∷ gy ∷ [])
-handedNet (nets-read.Refused why) = handedRefusal why
-handedNet nets-read.NoNet = refusal 20 0
+handedNet (net-read.Net n sx sy gx gy) = answer (n ∷ sx ∷ sy ∷ gx ∷ gy ∷ [])
+handedNet (net-read.Refused why) = handedRefusal why
+handedNet net-read.NoNet = refusal 20 0
 
 -- ---- the rows
 

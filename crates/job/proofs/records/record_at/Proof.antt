@@ -40,19 +40,19 @@ tidy c = rw (c .before .stray-byte .ensures) at (c .if1 .left)
 returns-2 : tie.Need-returns-2
 returns-2 c =
     let k = c .before in
-    rw (k .before .before .before .byte-of3 .ensures, k .before .before .byte-of4 .ensures) (sym (says-board _ _ (tidy (k .before .before .before .before .before .before)) (sym (k .before .before .before .before .before .byte-of .ensures) ∙ c .if2 .taken)))
+    says-board _ _ (tidy (k .before .before .before .before .before .before)) (sym (k .before .before .before .before .before .byte-of .ensures) ∙ c .if2 .taken) (k .before .before .before .byte-of3 .ensures) (k .before .before .byte-of4 .ensures)
 
 returns-3 : tie.Need-returns-3
 returns-3 c =
     let k = c .before .before in
-    rw (k .before .before .before .byte-of3 .ensures, k .before .before .byte-of4 .ensures, k .before .byte-of5 .ensures, k .byte-of6 .ensures)
-    (sym (says-keepout _ _ (tidy (k .before .before .before .before .before .before)) (sym (k .before .before .before .before .before .byte-of .ensures) ∙ c .if3 .taken)))
+    says-keepout _ _ (tidy (k .before .before .before .before .before .before)) (sym (k .before .before .before .before .before .byte-of .ensures) ∙ c .if3 .taken) (k .before .before .before .byte-of3 .ensures)
+    (k .before .before .byte-of4 .ensures) (k .before .byte-of5 .ensures) (k .byte-of6 .ensures)
 
 returns-4 : tie.Need-returns-4
 returns-4 c =
     let k = c .before .before .before in
-    rw (k .before .before .before .before .byte-of2 .ensures, k .before .before .before .byte-of3 .ensures, k .before .before .byte-of4 .ensures, k .before .byte-of5 .ensures, k .byte-of6 .ensures)
-    (sym (says-net _ _ (tidy (k .before .before .before .before .before .before)) (sym (k .before .before .before .before .before .byte-of .ensures) ∙ c .if4 .taken)))
+    says-net _ _ (tidy (k .before .before .before .before .before .before)) (sym (k .before .before .before .before .before .byte-of .ensures) ∙ c .if4 .taken) (k .before .before .before .before .byte-of2 .ensures)
+    (k .before .before .before .byte-of3 .ensures) (k .before .before .byte-of4 .ensures) (k .before .byte-of5 .ensures) (k .byte-of6 .ensures)
 
 returns-5 : tie.Need-returns-5
 returns-5 c =
