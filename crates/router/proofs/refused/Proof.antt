@@ -4,8 +4,6 @@ use Rattle.board.specs.Paper.{handed}
 use borrow.Author.Needs.{needs}
 use Rattle.router.proofs.refused.Statement.{statement}
 use Rattle.router.proofs.refused.Tie as tie
-use Rattle.router.proofs.refused.Reads as reads
-use Rattle.router.proofs.refused.Lts as lts
 
 enum-told : tie.Need-enum-told
 enum-told c = search needs

@@ -11,11 +11,6 @@ use Rattle.board.proofs.Rows.{leg-sound, leg-first, leg-second}
 use Rattle.router.proofs.Routing.{rooms, not-accepted, routed-refused, routed-short, routed-ran}
 use Rattle.router.proofs.route.Statement.{statement}
 use Rattle.router.proofs.route.Tie as tie
-use Rattle.router.proofs.route.Reads as reads
-use Rattle.router.proofs.route.Lts as lts
-use Rattle.board.proofs.check_leg.Reads as check-leg-reads
-use Rattle.router.proofs.refused.Reads as refused-reads
-use Rattle.router.proofs.search_route.Reads as search-route-reads
 
 -- the request
 abbrev began : tie.After-check-leg → tie.Start

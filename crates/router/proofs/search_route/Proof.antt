@@ -14,11 +14,6 @@ use Rattle.search.proofs.Theorems.{board-work, found-traced, found-path, found-
 use Rattle.router.proofs.Routing.{as-found, g-room, ran-none, ran-told}
 use Rattle.router.proofs.search_route.Statement.{statement}
 use Rattle.router.proofs.search_route.Tie as tie
-use Rattle.router.proofs.search_route.Reads as reads
-use Rattle.router.proofs.search_route.Lts as lts
-use Rattle.board.proofs.inner.number_of.Reads as number-of-reads
-use Rattle.router.proofs.tell_path.Reads as tell-path-reads
-use Rattle.search.proofs.inner.find.Reads as find-reads
 
 -- where the search has run, and where it began
 abbrev began : tie.After-find → tie.Start

@@ -4,11 +4,6 @@ use Rattle.router.proofs.Telling.{told-short, told-found}
 use borrow.Author.Needs.{needs}
 use Rattle.router.proofs.tell_path.Statement.{statement}
 use Rattle.router.proofs.tell_path.Tie as tie
-use Rattle.router.proofs.tell_path.Reads as reads
-use Rattle.router.proofs.tell_path.Lts as lts
-use Rattle.length.proofs.inner.exact_cells.Reads as exact-cells-reads
-use Rattle.search.proofs.inner.count_path.Reads as count-path-reads
-use Rattle.search.proofs.inner.write_path.Reads as write-path-reads
 
 count-path-requires : tie.Need-count-path-requires
 count-path-requires c κs = search needs
