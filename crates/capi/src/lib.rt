@@ -6,11 +6,18 @@ ghost use Rattle.board.specs.Paper.{refusal};
 ghost use Rattle.length.specs.Paper.{lengthRow, directionRow, handedLength, handedDirection};
 ghost use Rattle.sight.specs.Paper.{sightRow};
 ghost use Rattle.sight.specs.Paper as sight;
-ghost use Rattle.capi.specs.Told.{toldSight, toldLength, toldDirection};
+ghost use Rattle.job.specs.Paper.{handedBoard, handedNet, netRow};
+ghost use Rattle.capi.specs.Told.{toldSight, toldLength, toldDirection, noRoute, toldRoute, toldBoard, toldNet, RoutedForC, ReadForC};
+use board::Vertex;
+use job::BoardAnswer;
+use job::NetAnswer;
+use job::read_board;
+use job::read_net;
 use length::Aimed;
 use length::Direction;
 use length::Length;
 use length::Measured;
+use router::route;
 use sight::Answer;
 use sight::sight;
 
@@ -38,6 +45,40 @@ pub struct Toward {
     pub place: u64,
     pub x: f64,
     pub y: f64,
+}
+
+// A route.
+#[repr(C)]
+pub struct Found {
+    pub number: u64,
+    pub place: u64,
+    pub cells: f64,
+    pub units: u64,
+    pub vertices: u64,
+    pub expansions: u64,
+    pub tests: u64,
+}
+
+// A job's board.
+#[repr(C)]
+pub struct Sides {
+    pub number: u64,
+    pub place: u64,
+    pub width: u64,
+    pub height: u64,
+    pub nets: u64,
+}
+
+// A job's net.
+#[repr(C)]
+pub struct Ends {
+    pub number: u64,
+    pub place: u64,
+    pub net: u64,
+    pub sx: u64,
+    pub sy: u64,
+    pub gx: u64,
+    pub gy: u64,
 }
 
 // What C gets of an answer on sight.
@@ -175,4 +216,177 @@ pub extern "C" fn wexxolin_direction_between(ax: usize, ay: usize, bx: usize, by
     ensures { λ r. ⌜ r ≡ toldDirection (directionRow (legByVertices ax ay bx by)) ⌝ }
 {
     tell_direction(Direction::between(ax, ay, bx, by))
+}
+
+fn refuse_route(number: u64, place: u64) -> Found
+    ensures { λ r. ⌜ r ≡ noRoute (refusal number place) ⌝ }
+{
+    Found {
+        number,
+        place,
+        cells: 0.0,
+        units: 0,
+        vertices: 0,
+        expansions: 0,
+        tests: 0,
+    }
+}
+
+// What C gets of a route.
+fn tell_route(answer: router::Answer) -> Found
+    ensures { λ r. ⌜ r ≡ toldRoute answer ⌝ }
+{
+    match answer {
+        router::Answer::Found {
+            cells,
+            units,
+            vertices,
+            expansions,
+            tests,
+        } => Found {
+            number: 0,
+            place: 0,
+            cells,
+            units,
+            vertices: vertices as u64,
+            expansions,
+            tests,
+        },
+        router::Answer::NoPath { expansions, tests } => Found {
+            number: 8,
+            place: 0,
+            cells: 0.0,
+            units: 0,
+            vertices: 0,
+            expansions,
+            tests,
+        },
+        router::Answer::Side => refuse_route(1, 0),
+        router::Answer::Count => refuse_route(2, 0),
+        router::Answer::Byte(at) => refuse_route(3, at as u64),
+        router::Answer::First => refuse_route(4, 0),
+        router::Answer::Second => refuse_route(5, 0),
+        router::Answer::Work => refuse_route(6, 0),
+        router::Answer::Short(needed) => refuse_route(7, needed as u64),
+    }
+}
+
+// The route from (sx, sy) to (gx, gy).
+#[no_mangle]
+pub extern "C" fn wexxolin_route(
+    cells: &[u8],
+    width: usize,
+    height: usize,
+    sx: usize,
+    sy: usize,
+    gx: usize,
+    gy: usize,
+    g: &mut [u64],
+    parents: &mut [Vertex],
+    marks: &mut [u8],
+    path: &mut [Vertex],
+) -> Found
+    ensures { λ r. ⌜ RoutedForC (board (now (cells .entry)) width height) sx sy gx gy (now (g .entry)) (now (parents .entry)) (now (marks .entry)) (now (path .entry)) (now (g .exit)) (now (parents .exit)) (now (marks .exit)) (now (path .exit)) r ⌝ }
+{
+    tell_route(route(
+        cells,
+        width,
+        height,
+        sx,
+        sy,
+        gx,
+        gy,
+        g,
+        parents,
+        marks,
+        path,
+    ))
+}
+
+fn refuse_board(number: u64, place: u64) -> Sides
+    ensures { λ r. ⌜ r ≡ toldBoard (refusal number place) ⌝ }
+{
+    Sides {
+        number,
+        place,
+        width: 0,
+        height: 0,
+        nets: 0,
+    }
+}
+
+// What C gets of a board read.
+fn tell_board(answer: BoardAnswer) -> Sides
+    ensures { λ r. ⌜ r ≡ toldBoard (handedBoard answer) ⌝ }
+{
+    match answer {
+        BoardAnswer::Board {
+            width,
+            height,
+            nets,
+        } => Sides {
+            number: 0,
+            place: 0,
+            width: width as u64,
+            height: height as u64,
+            nets: nets as u64,
+        },
+        BoardAnswer::Refused(why) => refuse_board(why.number(), why.place() as u64),
+        BoardAnswer::Short => refuse_board(19, 0),
+    }
+}
+
+// A job's board.
+#[no_mangle]
+pub extern "C" fn wexxolin_board(job: &[u8], board: &mut [u8]) -> Sides
+    ensures { λ r. ⌜ ReadForC (now (job .entry)) (now (board .entry)) r (now (board .exit)) ⌝ }
+{
+    tell_board(read_board(job, board))
+}
+
+fn refuse_net(number: u64, place: u64) -> Ends
+    ensures { λ r. ⌜ r ≡ toldNet (refusal number place) ⌝ }
+{
+    Ends {
+        number,
+        place,
+        net: 0,
+        sx: 0,
+        sy: 0,
+        gx: 0,
+        gy: 0,
+    }
+}
+
+// What C gets of a net read.
+fn tell_net(answer: NetAnswer) -> Ends
+    ensures { λ r. ⌜ r ≡ toldNet (handedNet answer) ⌝ }
+{
+    match answer {
+        NetAnswer::Net {
+            number,
+            sx,
+            sy,
+            gx,
+            gy,
+        } => Ends {
+            number: 0,
+            place: 0,
+            net: number as u64,
+            sx: sx as u64,
+            sy: sy as u64,
+            gx: gx as u64,
+            gy: gy as u64,
+        },
+        NetAnswer::Refused(why) => refuse_net(why.number(), why.place() as u64),
+        NetAnswer::NoNet => refuse_net(20, 0),
+    }
+}
+
+// A job's net by its index from 0.
+#[no_mangle]
+pub extern "C" fn wexxolin_net(job: &[u8], index: usize) -> Ends
+    ensures { λ r. ⌜ r ≡ toldNet (netRow (now (job .entry)) index) ⌝ }
+{
+    tell_net(read_net(job, index))
 }

@@ -1,0 +1,24 @@
+-- `wexxolin_board` is the board read for C.
+use mathlib.Core.Path.{ap, _∙_}
+use Rattle.capi.specs.Told.{toldBoard}
+use borrow.Author.Needs.{needs}
+use Rattle.capi.proofs.wexxolin_board.Statement.{statement}
+use Rattle.capi.proofs.wexxolin_board.Tie as tie
+
+read-board-requires : tie.Need-read-board-requires
+read-board-requires c κs = search needs
+
+tell-board-requires : tie.Need-tell-board-requires
+tell-board-requires c κs = search needs
+
+same-length : tie.Need-same-length
+same-length c = search needs
+
+returns : tie.Need-returns
+returns c =
+    let k = c .before .before .before in
+    record { told = c .tell-board .ensures ∙ ap toldBoard (k .read-board .ensures .row); cells = k .read-board .ensures .cells }
+
+pub wexxolin-board-spec : {M : Type 1} → statement M
+wexxolin-board-spec =
+    tie.close (tie.spec read-board-requires tell-board-requires same-length returns)
