@@ -1,6 +1,6 @@
 -- Document 01's board is a fair problem, whose legs are bounded: what the theory of the search asks for. Assumes nothing.
-use Prim.Native.Nat.{ℕ, _≤_}
-use Rattle.board.specs.Board.{Board, vertices, number, column, row, OnBoard}
+use Prim.Native.Nat.{ℕ}
+use Rattle.board.specs.Board.{Board, number, column, row, OnBoard}
 use Rattle.board.proofs.Numbers.{number-below, column-on, row-on}
 use Rattle.sight.proofs.Visible.{visible-below, visible-sees, visible-symmetric, visible-irreflexive}
 use Rattle.search.specs.Demands.{Fair, Legs}

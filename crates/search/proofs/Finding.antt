@@ -1,12 +1,11 @@
 -- The search's loop on a board: what it begins with, what each turn relies on, what a turn leaves, and how it ends. Assumes nothing.
 use mathlib.Core.Path.{_≡_, refl, sym, ap, _∙_}
 use mathlib.Core.Logic.{_≢_}
-use mathlib.Core.Bool.{Bool, true, false, cond}
+use mathlib.Core.Bool.{Bool, true, false}
 use mathlib.Core.List.{List, _++_}
 use Prim.Native.Nat.{ℕ, suc, _+_, _-_, _*_, _^_, _≤_, _<_}
 use native.Mathlib.Omega.{arith}
 use native.Mathlib.Decide.{ℕ-discrete}
-use lib.Dec.{eqb}
 use lib.ListN.{length, set, replicate, drop, length-set, length-replicate, getD-replicate, List·getD-append}
 use lib.Seq.{getD-set-same, getD-set-other}
 use borrow.Author.Tests.{eq-eqb, ne-eqb}
@@ -18,7 +17,7 @@ use Rattle.length.specs.Units.{units}
 use Rattle.reach.specs.Turns.{at, vertex, Result, turns}
 use Rattle.search.specs.declared.Request.{Request}
 use Rattle.search.specs.declared.Spot.{Spot}
-use Rattle.search.specs.Search.{Problem, State, initial, basic, least, choose, beyond, fOf}
+use Rattle.search.specs.Search.{State, initial, basic, least, choose, beyond, fOf}
 use Rattle.search.specs.Demands.{Fair, Legs, Searched}
 use Rattle.search.specs.Request.{problem, boardOf, asked, sizeOf, longest, largest, Asked, Fitting, Placed}
 use Rattle.search.specs.Rows.{noKey, RowOf, Champions, Entries, Picked, Rescanned, Margins, LeftOut}
@@ -32,8 +31,8 @@ use Rattle.search.proofs.Rounds.{going-ready, going-round}
 use Rattle.search.proofs.Beyond.{searched}
 use Rattle.search.proofs.Rows.{champions-pick, champion-on, champion-le, champions-close, champions-start}
 use Rattle.search.proofs.Margin.{margins-none, margins-fewer, margins-open}
-use Rattle.search.proofs.Sizes.{vertices-most, largest-fits, tests-fit, leg-longest, units-number}
-use Rattle.search.proofs.Places.{sized, placed-below, placed-of-row}
+use Rattle.search.proofs.Sizes.{largest-fits, tests-fit, units-number}
+use Rattle.search.proofs.Places.{sized, placed-of-row}
 use Rattle.search.proofs.Asked.{board-fair, board-legs}
 
 -- the loop is at this state of the search that gives the whole, and the arrays are right

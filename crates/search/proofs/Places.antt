@@ -3,18 +3,18 @@ use mathlib.Core.Path.{_≡_, refl, sym, ap, _∙_}
 use mathlib.Core.Logic.{_⊎_, inl, inr, _≢_}
 use mathlib.Core.Bool.{Bool, true, false, not, _&&_, cond}
 use mathlib.Core.List.{List}
-use Prim.Native.Nat.{ℕ, _+_, _-_, _*_, _≤_, _<_, min}
+use Prim.Native.Nat.{ℕ, _+_, _-_, _*_, _≤_, _<_}
 use native.Mathlib.Nat.{mul-le-mul-right}
 use native.Mathlib.Omega.{arith}
 use native.Mathlib.Decide.{ℕ-discrete}
 use lib.Dec.{eqb, leb}
-use borrow.Author.Tests.{eq-eqb, ne-eqb, lt-ltb, le-leb}
+use borrow.Author.Tests.{ne-eqb, lt-ltb, le-leb}
 use Rattle.laws.proofs.Tests.{and-both, and-false, false-of}
 use Rattle.board.specs.Board.{Board, vertices, numberOf, columnOf, rowOf, column, row}
 use Rattle.board.proofs.Numbers.{number-below, column-number, row-number, number-back, column-on}
 use Rattle.length.specs.Legs.{step}
 use Rattle.length.specs.Units.{units}
-use Rattle.sight.specs.Leg.{far, Ends}
+use Rattle.sight.specs.Leg.{far}
 use Rattle.sight.specs.Sight.{sees}
 use Rattle.sight.specs.Neighbours.{neighbours, visible}
 use Rattle.sight.proofs.Steps.{neighbours-near}

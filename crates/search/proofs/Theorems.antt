@@ -5,9 +5,8 @@ use mathlib.Core.List.{List, [], _∷_, _++_}
 use Prim.Native.Nat.{ℕ, zero, suc, _+_, _-_, _*_, _^_, _≤_, _<_}
 use native.Mathlib.Nat.{mul-add}
 use native.Mathlib.Omega.{arith}
-use lib.ListN.{length, drop, length-append, length-drop, List·getD-append}
+use lib.ListN.{length, drop, length-append, List·getD-append}
 use Rattle.board.specs.Board.{Board, vertices, number, Sound, OnBoard}
-use Rattle.board.proofs.Numbers.{number-below}
 use Rattle.length.specs.Units.{unitsOf}
 use Rattle.length.proofs.Root.{finer-low, finer-high}
 use Rattle.length.proofs.Units.{units-bounds}

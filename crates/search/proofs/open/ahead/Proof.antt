@@ -1,7 +1,5 @@
 -- `search::open::ahead` tests as the order does: no holder, then f, then g, then the number.
-use Prim.Native.Nat.{_<_}
 use native.Mathlib.Omega.{arith}
-use lib.ListN.{length}
 use denote.Ref.{now}
 use Rattle.reach.specs.Turns.{at}
 use Rattle.search.specs.Search.{Rank}

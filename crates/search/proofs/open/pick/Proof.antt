@@ -1,10 +1,9 @@
 -- `search::open::pick` goes through the rows with the first champion so far.
-use mathlib.Core.Path.{_≡_, refl, sym, _∙_}
+use mathlib.Core.Path.{_≡_, sym, _∙_}
 use mathlib.Core.Bool.{true, false}
 use mathlib.Core.Logic.{⊎-elim}
 use Prim.Native.Nat.{_+_, _-_, _≤_, _<_}
 use native.Mathlib.Omega.{arith}
-use lib.ListN.{length}
 use denote.Ref.{now}
 use Rattle.reach.specs.Turns.{at}
 use Rattle.search.proofs.Scans.{Leading, leading-start, leading-none, leading-more, leading-kept}

@@ -6,13 +6,12 @@ use mathlib.Core.Logic.{⊎-elim}
 use Prim.Native.Nat.{ℕ, _+_, _-_, _*_, _≤_, _<_}
 use native.Mathlib.Omega.{arith}
 use denote.Ref.{now}
-use Rattle.board.specs.Limits.{side, mostVertices, vertices-fit}
+use Rattle.board.specs.Limits.{mostVertices, vertices-fit}
 use Rattle.length.specs.Legs.{step}
 use Rattle.length.specs.Units.{units}
 use Rattle.reach.specs.Turns.{at}
 use Rattle.search.specs.Search.{fOf}
 use Rattle.search.specs.Request.{problem, boardOf, asked}
-use Rattle.search.specs.Rows.{Rescanned}
 use Rattle.search.specs.Lengths.{Known}
 use Rattle.search.proofs.First.{first-wider}
 use Rattle.search.proofs.Rows.{rows-le}

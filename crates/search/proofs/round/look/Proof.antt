@@ -1,26 +1,22 @@
 -- `search::round::look` does what the definition does for one vertex, and keeps the arrays right.
-use mathlib.Core.Path.{_≡_, refl, sym, ap, _∙_}
+use mathlib.Core.Path.{_≡_, sym, ap, _∙_}
 use mathlib.Core.Logic.{⊎-elim, _≢_}
 use mathlib.Core.Bool.{cond}
-use mathlib.Core.List.{List}
 use Prim.Native.Nat.{ℕ, _+_, _^_, _≤_, _<_}
 use native.Mathlib.Omega.{arith}
 use borrow.Author.Needs.{needs}
 use borrow.Author.Tests.{not-true, not-false}
 use denote.Ref.{now}
 use lib.ListN.{length, length-set}
-use Rattle.board.specs.Board.{Board}
 use Rattle.board.specs.Limits.{mostVertices}
 use Rattle.sight.specs.Sight.{sees}
 use Rattle.reach.specs.Turns.{at}
-use Rattle.search.specs.declared.Request.{Request}
 use Rattle.search.specs.Search.{Problem}
-use Rattle.search.specs.Request.{problem, boardOf, asked, sizeOf, Placed, Fitting, largest}
-use Rattle.search.specs.Round.{Arrays}
+use Rattle.search.specs.Request.{problem, boardOf, asked, sizeOf, Placed, largest}
 use Rattle.search.proofs.Rows.{champion-le}
 use Rattle.search.proofs.Rounds.{look-far, look-done, look-won, look-lost, fell, ready-candidate}
 use Rattle.search.proofs.Sizes.{vertices-most, largest-fits, leg-longest}
-use Rattle.search.proofs.Places.{sized, placed-below, placed-cond, sees-placed, len-placed, candidate-number, beside-neighbours, beside-near}
+use Rattle.search.proofs.Places.{sized, placed-below, placed-cond, len-placed, candidate-number, beside-neighbours, beside-near}
 use Rattle.search.proofs.Settled.{settled-arrays}
 use Rattle.search.proofs.round.look.Statement.{statement}
 use Rattle.search.proofs.round.look.Tie as tie
@@ -69,9 +65,7 @@ returns-2 c =
     (look-far (asking s) (a .u .number) (a .w .number) (now (a .g)) (now (a .parents)) (now (a .marks)) (a .tests) far, s .pre .1 .1 .1)
 
 candidate-requires : tie.Need-candidate-requires
-candidate-requires c κs =
-    let s = start (c .before .before) in
-    (s .pre .0 .asked-for, (s .pre .0 .placed-parent, s .pre .1 .0 .placed))
+candidate-requires c κs = search needs
 
 -- the candidate parent: a vertex, the definition's, and one whose g is bounded
 from-placed : (k : tie.After-candidate) → let a = start (k .before .before .before) .args in Placed (boardOf (now (a .cells)) (a .request)) (k .candidate .result)

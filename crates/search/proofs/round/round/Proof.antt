@@ -1,6 +1,6 @@
 -- `search::round::round` goes row by row; what is not beside the taken vertex is passed over.
-use mathlib.Core.Path.{_≡_, refl, sym, ap, _∙_}
-use Prim.Native.Nat.{ℕ, _+_, _-_, _*_, _≤_, _<_, min}
+use mathlib.Core.Path.{_≡_, refl}
+use Prim.Native.Nat.{_+_, _-_, _*_, _≤_, _<_, min}
 use native.Mathlib.Omega.{arith}
 use denote.Ref.{now}
 use Rattle.board.specs.Limits.{mostVertices}

@@ -1,6 +1,6 @@
 -- `search::round::settle` stores the entries, and its calls see to the open list.
 use mathlib.Core.Path.{refl}
-use Prim.Native.Nat.{_+_, _*_, _≤_}
+use Prim.Native.Nat.{_≤_}
 use native.Mathlib.Omega.{arith}
 use borrow.Author.Needs.{needs}
 use Rattle.board.specs.Limits.{mostVertices, vertices-fit}

@@ -1,9 +1,9 @@
 -- `search::turns::begin` writes zeros, and then the start's parent and mark.
-use mathlib.Core.Path.{_≡_, refl, _∙_}
+use mathlib.Core.Path.{_≡_, refl}
 use mathlib.Core.List.{_++_}
 use Prim.Native.Nat.{_-_, _≤_}
 use native.Mathlib.Omega.{arith}
-use borrow.Author.Fill.{fill-none, fill-more}
+use borrow.Author.Fill.{fill-more}
 use denote.Ref.{now}
 use lib.ListN.{length, replicate, drop, length-set}
 use Rattle.search.proofs.turns.begin.Statement.{statement}

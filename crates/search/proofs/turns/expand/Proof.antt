@@ -1,5 +1,5 @@
 -- `search::turns::expand` marks the vertex, looks through its row, and makes its round.
-use mathlib.Core.Path.{_≡_, _∙_}
+use mathlib.Core.Path.{_∙_}
 use Prim.Native.Nat.{_≤_}
 use native.Mathlib.Omega.{arith}
 use borrow.Author.Needs.{needs}

@@ -1,14 +1,13 @@
 -- `search::turns::run` is at a state of the search that gives the whole; the measure is how many vertices are not yet expanded.
 use mathlib.Core.Path.{_≡_, refl, sym, _∙_}
 use mathlib.Core.Logic.{_≢_}
-use Prim.Native.Nat.{_+_, _-_, _*_, _≤_}
+use Prim.Native.Nat.{_+_, _-_, _≤_}
 use native.Mathlib.Omega.{arith}
-use denote.Ref.{now}
-use lib.ListN.{length, length-set}
-use Rattle.board.specs.Limits.{mostVertices, vertices-fit}
+use lib.ListN.{length}
+use Rattle.board.specs.Limits.{mostVertices}
 use Rattle.board.specs.Board.{numberOf}
 use Rattle.board.proofs.Numbers.{number-below}
-use Rattle.search.specs.Request.{sizeOf, boardOf}
+use Rattle.search.specs.Request.{sizeOf}
 use Rattle.search.proofs.Sizes.{vertices-most}
 use Rattle.search.proofs.Finding.{Finding, wholeFrom, finding-start, finding-entries, finding-tests, finding-none, finding-found, finding-room, finding-taking, finding-next}
 use Rattle.search.proofs.turns.run.Statement.{statement}
