@@ -1,11 +1,26 @@
--- The worked rows hold, by computation. Assumes nothing.
-use mathlib.Core.Path.{refl}
+-- The worked rows hold, by computation; and so does net 1 of the example job. Assumes nothing.
+use mathlib.Core.Path.{_≡_, refl}
+use mathlib.Core.List.{[], _∷_}
+use Rattle.board.specs.Board.{board, blocked}
+use Rattle.board.specs.Paper.{firstBad, boardRows, endRows}
 use Rattle.length.specs.Root.{root, rootIn}
 use Rattle.length.specs.Units.{unitsOf}
-use Rattle.board.specs.Board.{blocked}
 use Rattle.sight.specs.Sight.{side, positive, negative, someCorner, spans, crossed, every, cellsFree, rowWall, columnWall, between, edgesOpen, sees}
-use Rattle.worked.specs.Table.{AllHold, table}
+use Rattle.sight.specs.Neighbours.{neighbours, visible}
+use Rattle.reach.specs.Turns.{turns}
+use Rattle.search.specs.Search.{initial, sooner, better, least, choose, around, close, expand, search, trail, path}
+use Rattle.search.specs.Request.{problem}
+use Rattle.router.specs.Paper.{searchRow, routeRow, found}
+use Rattle.worked.specs.Table.{AllHold, table, corner, enough}
 
 pub worked : AllHold table
 unfolding unitsOf root rootIn blocked side positive negative someCorner spans crossed every cellsFree rowWall columnWall between edgesOpen sees
-worked = (refl, (refl, (refl, (refl, (refl, (refl, (refl, (refl, tt))))))))
+    neighbours visible turns initial sooner better least choose around close expand search trail problem firstBad boardRows endRows searchRow routeRow
+worked = (refl, (refl, (refl, (refl, (refl, (refl, (refl, (refl, (refl, (refl, (refl, (refl, tt))))))))))))
+
+-- net 1 of the example job: 3 expanded, 10 tests, by (1, 1)
+pub net-1 : (routeRow corner 0 0 2 1 enough ≡ found 2531486 3 3 10)
+    × (path (problem corner 0 0 2 1) ((search (problem corner 0 0 2 1)) .state) ≡ 0 ∷ 4 ∷ 5 ∷ [])
+unfolding unitsOf root rootIn blocked side positive negative someCorner spans crossed every cellsFree rowWall columnWall between edgesOpen sees
+    neighbours visible turns initial sooner better least choose around close expand search trail problem firstBad boardRows endRows searchRow routeRow
+net-1 = (refl, refl)

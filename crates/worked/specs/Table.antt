@@ -4,19 +4,28 @@ use mathlib.Core.Path.{_≡_}
 use mathlib.Core.Bool.{Bool, true, false}
 use mathlib.Core.List.{List, [], _∷_}
 use lib.IntN.{ℤ, pos, negsuc}
+use Rattle.board.specs.Limits.{mostVertices}
 use Rattle.board.specs.Board.{Board, board}
+use Rattle.board.specs.Paper.{Handed}
 use Rattle.length.specs.Units.{units}
 use Rattle.sight.specs.Sight.{sees}
+use Rattle.router.specs.Paper.{Lent, routeRow, found, none}
 
 -- a question and its answer
 pub data Row : Type 0 where
   length : (dx dy : ℤ) → (answer : ℕ) → Row
   sight : (b : Board) → (ax ay bx by : ℕ) → (answer : Bool) → Row
+  route : (b : Board) → (sx sy gx gy : ℕ) → (answer : Handed) → Row
+
+-- lent slices with an entry for each vertex of the largest board
+abbrev pub enough : Lent
+enough = record { g = mostVertices; parents = mostVertices; marks = mostVertices; path = mostVertices }
 
 -- the definitions answer the question so
 abbrev pub Holds : Row → Type 0
 Holds (length dx dy answer) = units dx dy ≡ answer
 Holds (sight b ax ay bx by answer) = sees b ax ay bx by ≡ answer
+Holds (route b sx sy gx gy answer) = routeRow b sx sy gx gy enough ≡ answer
 
 abbrev pub AllHold : List Row → Type 0
 AllHold [] = Unit {0}
@@ -26,6 +35,18 @@ AllHold (r ∷ rs) = Holds r × AllHold rs
 abbrev pub corner : Board
 corner = board (0 ∷ 1 ∷ 0 ∷ 0 ∷ []) 2 2
 
+-- 1×1, free and blocked
+abbrev pub free : Board
+free = board (0 ∷ []) 1 1
+
+abbrev pub full : Board
+full = board (1 ∷ []) 1 1
+
+-- 3×1, (1,0) blocked
+abbrev pub gate : Board
+gate = board (0 ∷ 1 ∷ 0 ∷ []) 3 1
+
+-- units, vertices, expanded and tests of a path; expanded and tests without one
 abbrev pub table : List Row
 table =
     length (pos 0) (pos 0) 0
@@ -36,4 +57,8 @@ table =
     ∷ sight corner 0 0 2 2 true
     ∷ sight corner 1 0 1 1 true
     ∷ sight corner 1 0 2 0 false
+    ∷ route free 0 0 1 1 (found 1482910 2 1 3)
+    ∷ route full 0 0 1 1 (none 1 0)
+    ∷ route full 0 0 0 0 (found 0 1 0 0)
+    ∷ route gate 0 0 3 0 (none 4 6)
     ∷ []

@@ -1,6 +1,9 @@
 // Runs document 01's worked rows; what it prints is compared with the file stdout.
+use board::MOST;
+use board::Vertex;
 use length::Length;
 use length::Measured;
+use router::route;
 use sight::Answer;
 use sight::sight;
 
@@ -41,6 +44,114 @@ fn sight_row(question: &[u8], cells: &[u8], ax: usize, ay: usize, bx: usize, by:
     }
 }
 
+// One row on a route: units, expanded and tests, with the lent path slice.
+fn route_row(
+    question: &[u8],
+    cells: &[u8],
+    width: usize,
+    height: usize,
+    gx: usize,
+    gy: usize,
+    path: &mut [Vertex],
+) {
+    let mut g = [0u64; MOST];
+    let mut parents = [0 as Vertex; MOST];
+    let mut marks = [0u8; MOST];
+    io::write_all(1, question);
+    match route(
+        cells,
+        width,
+        height,
+        0,
+        0,
+        gx,
+        gy,
+        &mut g,
+        &mut parents,
+        &mut marks,
+        path,
+    ) {
+        router::Answer::Found {
+            cells: _,
+            units,
+            vertices,
+            expansions,
+            tests,
+        } => {
+            numbers(b"path of ", vertices as u64, b" vertices, ", units);
+            numbers(b", ", expansions, b", ", tests);
+            io::write_all(1, b"\n");
+        }
+        router::Answer::NoPath { expansions, tests } => {
+            numbers(b"none, ", expansions, b", ", tests);
+            io::write_all(1, b"\n");
+        }
+        router::Answer::Side => refused(1),
+        router::Answer::Count => refused(2),
+        router::Answer::Byte(_) => refused(3),
+        router::Answer::First => refused(4),
+        router::Answer::Second => refused(5),
+        router::Answer::Work => refused(6),
+        router::Answer::Short(_) => refused(7),
+    }
+}
+
+// Two numbers, each after its words.
+fn numbers(first: &[u8], a: u64, second: &[u8], b: u64) {
+    io::write_all(1, first);
+    io::print_decimal(1, a);
+    io::write_all(1, second);
+    io::print_decimal(1, b);
+}
+
+// The rows on routes: from (0,0) to a goal.
+fn route_rows() {
+    let mut path = [0 as Vertex; MOST];
+    route_row(b"route (1,1), 1x1 free: ", &[0u8], 1, 1, 1, 1, &mut path);
+    route_row(b"route (1,1), 1x1 blocked: ", &[1u8], 1, 1, 1, 1, &mut path);
+    route_row(b"route (0,0), 1x1 blocked: ", &[1u8], 1, 1, 0, 0, &mut path);
+    let gate = [0u8, 1, 0];
+    route_row(
+        b"route (3,0), 3x1 blocked in the middle: ",
+        &gate,
+        3,
+        1,
+        3,
+        0,
+        &mut path,
+    );
+}
+
+// The path slice of net 1, and the sides of a board.
+fn boundaries() {
+    let corner = [0u8, 1, 0, 0];
+    let mut three = [0 as Vertex; 3];
+    let mut two = [0 as Vertex; 2];
+    route_row(
+        b"net 1 with a path slice of 3: ",
+        &corner,
+        2,
+        2,
+        2,
+        1,
+        &mut three,
+    );
+    route_row(
+        b"net 1 with a path slice of 2: ",
+        &corner,
+        2,
+        2,
+        2,
+        1,
+        &mut two,
+    );
+    let free = [0u8; 63];
+    let none = [0u8; 0];
+    route_row(b"a side of 63: ", &free, 63, 1, 1, 0, &mut three);
+    route_row(b"a side of 64: ", &free, 64, 1, 1, 0, &mut three);
+    route_row(b"a side of 0: ", &none, 0, 1, 1, 0, &mut three);
+}
+
 fn main() {
     length_row(b"length of 0,0: ", 0, 0);
     length_row(b"length of 1,0: ", 1, 0);
@@ -60,4 +171,6 @@ fn main() {
     sight_row(b"sight (1,0)-(2,0): ", &corner, 1, 0, 2, 0);
     let gap = [0u8, 1, 1, 0];
     sight_row(b"sight (0,0)-(2,2), a diagonal gap: ", &gap, 0, 0, 2, 2);
+    route_rows();
+    boundaries();
 }
