@@ -29,5 +29,5 @@ build() {
     for part in $LIBRARY; do
         [ -e "$part" ] || { echo "there is no library $part (set LIBRARY)" >&2; exit 2; }
     done
-    $CC $FLAGS -o "$OUT/$name" "$@" $LIBRARY $LINK
+    $CC $FLAGS -I "$root/include" -o "$OUT/$name" "$@" $LIBRARY $LINK
 }
