@@ -1,2 +1,4 @@
 pub mod Telling
 pub mod Routing
+pub mod Determined
+pub mod Demands

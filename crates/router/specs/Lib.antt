@@ -1,2 +1,3 @@
 pub mod Paper
 pub mod Telling
+pub mod Demands
