@@ -25,19 +25,6 @@ pub fn is_cell_blocked(cells: &[u8], width: usize, height: usize, x: usize, y: u
     cells[y * width + x] == 1
 }
 
-// Whether a cell is blocked, where everything outside the board is.
-pub fn is_blocked(cells: &[u8], width: usize, height: usize, x: usize, y: usize) -> bool
-    requires { ⌜ Sound (board (now cells) width height) ⌝ }
-    ensures { λ r. ⌜ r ≡ blocked (board (now (cells .entry)) width height) x y ⌝ }
-{
-    if x < width {
-        if y < height {
-            return is_cell_blocked(cells, width, height, x, y);
-        }
-    }
-    true
-}
-
 // Whether (x, y) is a vertex of a board.
 pub fn is_vertex(width: usize, height: usize, x: usize, y: usize) -> bool
     ensures { λ r. ⌜ r ≡ (leb x width && leb y height) ⌝ }
