@@ -1,9 +1,10 @@
 -- The search's loop on a board: what it begins with, what each turn relies on, what a turn leaves, and how it ends. Assumes nothing.
 use mathlib.Core.Path.{_≡_, refl, sym, ap, _∙_}
-use mathlib.Core.Logic.{_≢_}
+use mathlib.Core.Logic.{inl, inr, _≢_}
 use mathlib.Core.Bool.{Bool, true, false}
 use mathlib.Core.List.{List, _++_}
-use Prim.Native.Nat.{ℕ, suc, _+_, _-_, _*_, _^_, _≤_, _<_}
+use Prim.Native.Nat.{ℕ, suc, _+_, _-_, _*_, _/_, _^_, _≤_, _<_}
+use native.Mathlib.Nat.{suc-mul}
 use native.Mathlib.Omega.{arith}
 use native.Mathlib.Decide.{ℕ-discrete}
 use lib.ListN.{length, set, replicate, drop, length-set, length-replicate, getD-replicate, List·getD-append}
@@ -20,7 +21,7 @@ use Rattle.search.specs.declared.Spot.{Spot}
 use Rattle.search.specs.Search.{State, initial, basic, least, choose, beyond, fOf}
 use Rattle.search.specs.Demands.{Fair, Legs, Searched}
 use Rattle.search.specs.Request.{problem, boardOf, asked, sizeOf, longest, largest, Asked, Fitting, Placed}
-use Rattle.search.specs.Rows.{noKey, RowOf, Champions, Entries, Picked, Rescanned, Margins, LeftOut}
+use Rattle.search.specs.Rows.{noKey, block, entries, rowCut, blockCut, Rising, Within, Champions, Entries, Picked, Renewed, Keyed, Margins, LeftOut}
 use Rattle.search.specs.Lengths.{Known}
 use Rattle.search.specs.Round.{state, Ready, Rounded, Taking, Taken, Arrays}
 use Rattle.search.specs.Begun.{Begun, Begins}
@@ -29,10 +30,10 @@ use Rattle.search.proofs.Choosing.{chosen-nothing, chosen-arrived, chos
 use Rattle.search.proofs.Held.{Going, g-bound, tests-bound, going-start, going-nothing, going-arrived, going-room}
 use Rattle.search.proofs.Rounds.{going-ready, going-round}
 use Rattle.search.proofs.Beyond.{searched}
-use Rattle.search.proofs.Rows.{champions-pick, champion-on, champion-le, champions-close, champions-start}
+use Rattle.search.proofs.Rows.{blocks-all, block-within, no-stale-key, champions-pick, champion-on, champion-le, elsewhere, renewed-elsewhere, champions-close, champions-start}
 use Rattle.search.proofs.Margin.{margins-none, margins-fewer, margins-open}
 use Rattle.search.proofs.Sizes.{largest-fits, tests-fit, units-number}
-use Rattle.search.proofs.Places.{sized, placed-of-row}
+use Rattle.search.proofs.Places.{sized, rising-rows, rising-blocks, placed-of-row}
 use Rattle.search.proofs.Asked.{board-fair, board-legs}
 
 -- the loop is at this state of the search that gives the whole, and the arrays are right
@@ -89,18 +90,27 @@ module _ {cells : List ℕ} {q : Request} (A : Asked cells q) where
     unfolding problem
     found-whole e = searched fair g parent mark (ap (turns (basic (asked cells q)) (suc (sizeOf q))) (sym begun-state) ∙ e)
 
-    -- the start is the one open vertex: its row's champion, and out of its row's margins
+    -- the start is the one open vertex: the champion of its row and its block, and out of its row's margins
     pub begun-arrays : {margins table : List ℕ} (f : ℕ) → f ≡ units (step (q .sx) (q .gx)) (step (q .sy) (q .gy))
         → LeftOut (q .sy) (q .sx) (q .width - q .sx) (replicate (2 * (side + 1)) (q .width + 1)) margins → Known table
-        → Arrays cells q g′ mark′ (set (replicate (side + 1) (sizeOf q)) (q .sy) start) (set (replicate (side + 1) noKey) (q .sy) f) margins table
+        → Arrays cells q g′ mark′ (set (set (replicate entries (sizeOf q)) (q .sy) start) (side + 1 + q .sy / block) start)
+        (set (set (replicate entries noKey) (q .sy) f) (side + 1 + q .sy / block) f) margins table
     unfolding problem
     begun-arrays f e L K = record {
-      champions =
+      rows =
           rw (at-start, e ∙ sym key-is)
-          (champions-start (replicate (side + 1) (sizeOf q)) (replicate (side + 1) noKey) (sized cells q) in-row
-          (rw length-replicate (omega (arith, A .sound .low))) (rw length-replicate (omega (arith, A .sound .low))) open-start others
-          (λ j l. getD-replicate (side + 1) j (sizeOf q) 0 (omega (arith, A .sound .low)))
-          (λ j l. getD-replicate (side + 1) j noKey 0 (omega (arith, A .sound .low))));
+          (elsewhere (inr (omega (arith, A .sound .low)))
+          (champions-start none-yet no-keys (rising-rows cells q) in-row (rw length-replicate (omega (arith, A .sound .low)))
+          (rw length-replicate (omega (arith, A .sound .low))) open-start others
+          (λ j a l d. (getD-replicate entries j (sizeOf q) 0 (omega (arith, A .sound .low)), getD-replicate entries j noKey 0 (omega (arith, A .sound .low))))) from (fOf (asked cells q) g′ from));
+      blocks =
+          rw (at-start, e ∙ sym key-is)
+          (champions-start (set none-yet (q .sy) from) (set no-keys (q .sy) (fOf (asked cells q) g′ from)) (rising-blocks cells q) (block-within (q .width + 1) (q .height) in-row)
+          (rw (length-set, length-replicate) (omega (arith, A .sound .low))) (rw (length-set, length-replicate) (omega (arith, A .sound .low))) open-start others
+          (λ j a l d. let x : j ≢ q .sy = λ z. omega (arith, A .start .y-on, A .sound .low) in (
+            getD-set-other none-yet (q .sy) j from 0 x ∙ getD-replicate entries j (sizeOf q) 0 (omega (arith, A .sound .low)),
+            getD-set-other no-keys (q .sy) j (fOf (asked cells q) g′ from) 0 x ∙ getD-replicate entries j noKey 0 (omega (arith, A .sound .low)),
+          )));
       margined =
           rw (B .mark-is)
           (margins-open (margins-none (q .width + 1) (q .height + 1) (replicate (sizeOf q) 0 ++ drop (sizeOf q) mark) (2 * (side + 1)) (omega (arith, A .sound .low)) zeros)
@@ -111,8 +121,22 @@ module _ {cells : List ℕ} {q : Request} (A : Asked cells q) where
         start-on : number (boardOf cells q) (q .sx) (q .sy) < sizeOf q
         start-on = number-below (q .width) (q .height) (q .sx) (q .sy) (A .start .x-on) (A .start .y-on)
 
-        in-row : RowOf (q .width + 1) (q .height + 1) (q .sy) (number (boardOf cells q) (q .sx) (q .sy))
-        in-row = record { on = omega (arith, A .start .y-on); low = omega arith; high = omega (arith, A .start .x-on) }
+        from : ℕ
+        from = number (boardOf cells q) (q .sx) (q .sy)
+
+        none-yet : List ℕ
+        none-yet = replicate entries (sizeOf q)
+
+        no-keys : List ℕ
+        no-keys = replicate entries noKey
+
+        in-row : Within (rowCut (q .width + 1)) 0 (q .height + 1) (q .sy) (number (boardOf cells q) (q .sx) (q .sy))
+        in-row = record {
+          from-on = omega arith;
+          to-on = omega (arith, A .start .y-on);
+          low = omega arith;
+          high = omega (arith, A .start .x-on, suc-mul (q .sy) (q .width + 1));
+        }
 
         key-is : fOf (asked cells q) g′ (number (boardOf cells q) (q .sx) (q .sy)) ≡ units (step (q .sx) (q .gx)) (step (q .sy) (q .gy))
         key-is =
@@ -139,6 +163,33 @@ module _ {cells : List ℕ} {q : Request} (A : Asked cells q) where
 
   -- ---- a turn
 
+  -- no key is beyond what a key may be
+  pub champions-entries : {cut : ℕ → ℕ} {from to : ℕ} {g mark champ key : List ℕ} → Champions (asked cells q) cut from to g mark champ key
+      → Rising (sizeOf q) cut to → Keyed (sizeOf q) (largest (q .width) (q .height)) g mark → from ≤ to → to ≤ entries → Entries (sizeOf q) from to g champ key
+  unfolding problem
+  champions-entries {from = from} {to = to} {champ = champ} {key = key} C R G forward few = record {
+    forward = forward;
+    few = few;
+    room = G .room-g;
+    on = champion-le C R;
+    small = λ i a l. small i a l (ℕ-discrete (at champ i) (sizeOf q));
+    blank = λ i a l. C .lead i a l .blank;
+  }
+    where
+      small : (i : ℕ) → from ≤ i → i < to → Dec (at champ i ≡ sizeOf q) → at key i ≤ noKey
+      small i a l (yes z) = omega (arith, C .lead i a l .blank z)
+      small i a l (no d) =
+          let o = champion-on C R i a l d in
+          let c = at champ i in
+          omega (
+            arith,
+            no-stale-key C i a l d,
+            G .small c (o .0) (o .1),
+            legs .at-most c (number (boardOf cells q) (q .gx) (q .gy)) (o .0)
+                (number-below (q .width) (q .height) (q .gx) (q .gy) (A .goal .x-on) (A .goal .y-on)),
+            largest-fits (q .width) (q .height) (A .sound .narrow) (A .sound .low),
+          )
+
   pub finding-start : {g parent mark champ key margins table : List ℕ} → Begins (asked cells q) (state g parent mark 0 0)
       → Arrays cells q g mark champ key margins table → Finding cells q (wholeFrom cells q g parent mark) g parent mark champ key margins table 0 0
   unfolding problem
@@ -146,46 +197,29 @@ module _ {cells : List ℕ} {q : Request} (A : Asked cells q) where
 
   module _ {whole : Result State} {g parent mark champ key margins table : List ℕ} {e t : ℕ}
       (W : Finding cells q whole g parent mark champ key margins table e t) where
-    -- no key is beyond what a key may be
-    small-keys : (y : ℕ) → y < q .height + 1 → at key y ≤ noKey
+    -- no open vertex's g is beyond what it may be
+    keyed : Keyed (sizeOf q) (largest (q .width) (q .height)) g mark
     unfolding problem
-    small-keys y l = go (ℕ-discrete (at champ y) (sizeOf q))
-      where
-        C : Champions (asked cells q) (q .width + 1) (q .height + 1) g mark champ key
-        C = W .arrays .champions
-
-        go : Dec (at champ y ≡ sizeOf q) → at key y ≤ noKey
-        go (yes z) = omega (arith, C .blank y l z)
-        go (no d) =
-            let o = champion-on C (sized cells q) y l d in
-            let c = at champ y in
-            omega (
-              arith,
-              C .keyed y l d,
-              g-bound fair (W .going .sane) (W .going .kept) c (o .0) (rw (o .1) refl),
-              legs .at-most c (number (boardOf cells q) (q .gx) (q .gy)) (o .0)
-                  (number-below (q .width) (q .height) (q .gx) (q .gy) (A .goal .x-on) (A .goal .y-on)),
-              largest-fits (q .width) (q .height) (A .sound .narrow) (A .sound .low),
-            )
-
-    pub finding-entries : Entries (sizeOf q) (q .height + 1) g champ key
-    unfolding problem
-    finding-entries = record {
-      few = omega (arith, A .sound .low);
-      room = W .going .kept .tidy .room-g;
-      on = champion-le (W .arrays .champions) (sized cells q);
-      small = small-keys;
-      blank = W .arrays .champions .blank;
+    keyed = record {
+      room-g = W .going .kept .tidy .room-g;
+      room-m = W .going .kept .tidy .room-m;
+      small = λ w l o. g-bound fair (W .going .sane) (W .going .kept) w l (rw o refl);
     }
+
+    pub finding-entries : Entries (sizeOf q) (side + 1) (side + 1 + q .height / block + 1) g champ key
+    unfolding problem
+    finding-entries = champions-entries (W .arrays .blocks) (rising-blocks cells q) keyed (omega arith) (omega (arith, A .sound .low))
 
     pub finding-tests : t < 2 ^ 62
     unfolding problem
     finding-tests = omega (arith, tests-bound fair (W .going .kept), tests-fit (q .width) (q .height) (A .sound .narrow) (A .sound .low))
 
-    module _ {v : ℕ} (P : Picked (sizeOf q) (q .height + 1) g champ key v) where
+    module _ {v f : ℕ} (P : Picked (sizeOf q) (side + 1) (side + 1 + q .height / block + 1) g champ key v f) where
       picked : v ≡ least (asked cells q) g mark ((asked cells q) .size)
       unfolding problem
-      picked = P .is (asked cells q) refl (W .arrays .champions .keyed) ∙ champions-pick (W .arrays .champions) (sized cells q)
+      picked =
+          let c = blocks-all (q .width + 1) (q .height) in
+          champions-pick (W .arrays .blocks) (rising-blocks cells q) P (c .0) (c .1 ∙ sym (sized cells q))
 
       pub finding-none : v ≡ sizeOf q → whole ≡ record { found = false; state = state g parent mark e t }
       unfolding problem
@@ -274,11 +308,27 @@ module _ {cells : List ℕ} {q : Request} (A : Asked cells q) {v : ℕ} {g paren
     taking-margins =
         margins-fewer (set mark v 2) (still-open mark v (taking-on T .3)) (D .margined)
 
+    in-row : Within (rowCut (q .width + 1)) 0 (q .height + 1) (u .y) v
+    in-row = rw (U .2) at (placed-of-row placed)
+
     -- its row has been looked through
-    pub taking-arrays : {champ′ key′ table′ : List ℕ} → Rescanned (asked cells q) (q .width + 1) (u .y) g (set mark v 2) champ key champ′ key′
-        → Known table′ → Arrays cells q g (set mark v 2) champ′ key′ margins table′
-    taking-arrays S K = record {
-      champions = champions-close (D .champions) (rw (U .2) at (placed-of-row placed)) S;
-      margined = taking-margins;
-      known = K;
-    }
+    module _ {champ′ key′ : List ℕ} (S : Renewed (asked cells q) (rowCut (q .width + 1)) (u .y) g (set mark v 2) champ key champ′ key′) where
+      pub taking-rows : Champions (asked cells q) (rowCut (q .width + 1)) 0 (q .height + 1) g (set mark v 2) champ′ key′
+      taking-rows = champions-close (rising-rows cells q) (D .rows) in-row S
+
+      pub taking-entries : Entries (sizeOf q) 0 (q .height + 1) g champ′ key′
+      unfolding problem
+      taking-entries = champions-entries A taking-rows (rising-rows cells q) (T .keyed) (omega arith) (omega (arith, A .sound .low))
+
+      -- and then its block
+      pub taking-arrays : {champ″ key″ table′ : List ℕ}
+          → Renewed (asked cells q) (blockCut (q .width + 1) (q .height + 1)) (side + 1 + u .y / block) g (set mark v 2) champ′ key′ champ″ key″
+          → Known table′ → Arrays cells q g (set mark v 2) champ″ key″ margins table′
+      taking-arrays B K = record {
+        rows = renewed-elsewhere (inr (omega (arith, A .sound .low))) taking-rows B;
+        blocks =
+            champions-close (rising-blocks cells q) (renewed-elsewhere (inl (omega (arith, in-row .to-on, A .sound .low))) (D .blocks) S)
+            (block-within (q .width + 1) (q .height) in-row) B;
+        margined = taking-margins;
+        known = K;
+      }

@@ -3,13 +3,14 @@ use mathlib.Core.Path.{_≡_, refl, sym, ap, _∙_}
 use mathlib.Core.Logic.{_⊎_, inl, inr, _≢_}
 use mathlib.Core.Bool.{Bool, true, false, not, _&&_, cond}
 use mathlib.Core.List.{List}
-use Prim.Native.Nat.{ℕ, _+_, _-_, _*_, _≤_, _<_}
-use native.Mathlib.Nat.{mul-le-mul-right}
+use Prim.Native.Nat.{ℕ, _+_, _-_, _*_, _/_, _≤_, _<_}
+use native.Mathlib.Nat.{suc-mul, mul-le-mul-right}
 use native.Mathlib.Omega.{arith}
 use native.Mathlib.Decide.{ℕ-discrete}
 use lib.Dec.{eqb, leb}
 use borrow.Author.Tests.{ne-eqb, lt-ltb, le-leb}
 use Rattle.laws.proofs.Tests.{and-both, and-false, false-of}
+use Rattle.board.specs.Limits.{side}
 use Rattle.board.specs.Board.{Board, vertices, numberOf, columnOf, rowOf, column, row}
 use Rattle.board.proofs.Numbers.{number-below, column-number, row-number, number-back, column-on}
 use Rattle.length.specs.Legs.{step}
@@ -23,8 +24,9 @@ use Rattle.reach.specs.Turns.{at}
 use Rattle.search.specs.declared.Request.{Request}
 use Rattle.search.specs.declared.Spot.{Spot}
 use Rattle.search.specs.Request.{problem, boardOf, asked, sizeOf, Asked, Placed}
-use Rattle.search.specs.Rows.{RowOf}
+use Rattle.search.specs.Rows.{block, rowCut, blockCut, Rising, Within}
 use Rattle.search.specs.Round.{Beside}
+use Rattle.search.proofs.Rows.{rows-rise, blocks-rise}
 use Rattle.search.proofs.Sizes.{units-number}
 
 -- ---- by number
@@ -40,11 +42,12 @@ module _ {b : Board} {s : Spot} (P : Placed b s) where
   placed-row = ap (rowOf (b .width)) (P .numbered) ∙ row-number (b .width) (s .x) (s .y) (P .on .x-on)
 
   -- it is a vertex of its row
-  pub placed-of-row : RowOf (b .width + 1) (b .height + 1) (s .y) (s .number)
+  pub placed-of-row : Within (rowCut (b .width + 1)) 0 (b .height + 1) (s .y) (s .number)
   placed-of-row = record {
-    on = omega (arith, P .on .y-on);
+    from-on = omega arith;
+    to-on = omega (arith, P .on .y-on);
     low = omega (arith, P .numbered);
-    high = omega (arith, P .numbered, P .on .x-on);
+    high = omega (arith, P .numbered, P .on .x-on, suc-mul (s .y) (b .width + 1));
   }
 
 -- the same place has the same number, and the other way round
@@ -56,6 +59,16 @@ module _ (cells : List ℕ) (q : Request) where
   pub sized : (asked cells q) .size ≡ (q .height + 1) * (q .width + 1)
   unfolding problem
   sized = omega arith
+
+  pub size-is : (asked cells q) .size ≡ sizeOf q
+  unfolding problem
+  size-is = refl
+
+  pub rising-rows : Rising ((asked cells q) .size) (rowCut (q .width + 1)) (q .height + 1)
+  rising-rows = rows-rise (q .width + 1) (q .height + 1) ((asked cells q) .size) sized
+
+  pub rising-blocks : Rising ((asked cells q) .size) (blockCut (q .width + 1) (q .height + 1)) (side + 1 + q .height / block + 1)
+  rising-blocks = blocks-rise (q .width + 1) (q .height + 1) ((asked cells q) .size) (side + 1 + q .height / block + 1) sized
 
   module _ {s t : Spot} (P : Placed (boardOf cells q) s) (Q : Placed (boardOf cells q) t) where
     pub sees-placed : (asked cells q) .sees (s .number) (t .number) ≡ sees (boardOf cells q) (s .x) (s .y) (t .x) (t .y)

@@ -1,5 +1,6 @@
 -- A vertex that gets a g and a parent: the open list and the margins stay right. Assumes nothing.
 use mathlib.Core.Path.{_≡_}
+use mathlib.Core.Logic.{inl, inr}
 use mathlib.Core.List.{List}
 use Prim.Native.Nat.{ℕ, _+_, _-_, _≤_, _<_}
 use native.Mathlib.Omega.{arith}
@@ -8,12 +9,12 @@ use Rattle.reach.specs.Turns.{at}
 use Rattle.search.specs.declared.Request.{Request}
 use Rattle.search.specs.declared.Spot.{Spot}
 use Rattle.search.specs.Request.{problem, boardOf, asked, sizeOf, Asked, Placed}
-use Rattle.search.specs.Rows.{ranked, Entered}
+use Rattle.search.specs.Rows.{ranked, rowCut, Within, Stood}
 use Rattle.search.specs.Lengths.{Known}
 use Rattle.search.specs.Round.{Arrays, Settled}
-use Rattle.search.proofs.Rows.{champions-look}
+use Rattle.search.proofs.Rows.{block-within, entered-elsewhere, champions-look}
 use Rattle.search.proofs.Margin.{margins-open}
-use Rattle.search.proofs.Places.{sized, len-goal, placed-of-row}
+use Rattle.search.proofs.Places.{rising-rows, rising-blocks, len-goal, placed-of-row}
 
 pub settled-arrays : {cells : List ℕ} {q : Request} {w : Spot} {c own : ℕ} {g parent mark champ key margins table : List ℕ}
     {g′ parent′ mark′ champ′ key′ margins′ table′ : List ℕ} → Asked cells q → Placed (boardOf cells q) w → sizeOf q ≤ length g → sizeOf q ≤ length mark
@@ -22,13 +23,24 @@ pub settled-arrays : {cells : List ℕ} {q : Request} {w : Spot} {c own : ℕ} {
     → Arrays cells q g′ mark′ champ′ key′ margins′ table′
 unfolding problem
 settled-arrays {cells} {q} {w} {own = own} {g = g} {champ = champ} {key = key} {champ′ = champ′} {key′ = key′} A P lg lm d R S K = record {
-  champions =
-      let E : Entered (sizeOf q) g (w .y) (ranked (own + (asked cells q) .len (w .number) ((asked cells q) .goal)) own (w .number)) champ key champ′ key′ =
-      rw (len-goal cells q A P) (S .entered) in
-      rw (S .g-is, S .mark-is) (champions-look (sized cells q) (R .champions) (placed-of-row P) own lg lm d E);
+  rows =
+      rw (S .g-is, S .mark-is)
+      (entered-elsewhere (inr (omega (arith, P .on .y-on, A .sound .low)))
+      (champions-look (rising-rows cells q) (R .rows) in-row own lg lm d (T .in-row)) (T .in-block));
+  blocks =
+      rw (S .g-is, S .mark-is)
+      (champions-look (rising-blocks cells q)
+      (entered-elsewhere (inl (omega (arith, P .on .y-on, A .sound .low))) (R .blocks) (T .in-row)) (block-within (q .width + 1) (q .height) in-row) own lg lm d
+      (T .in-block));
   margined =
       rw (S .mark-is, P .numbered)
       (margins-open (R .margined) (w .y) (w .x) (q .width - w .x) (omega (arith, P .on .y-on)) (omega (arith, P .on .x-on)) (omega (arith, P .on .x-on))
       (S .left-out));
   known = K;
 }
+  where
+    T : Stood (sizeOf q) g (w .y) (ranked (own + (asked cells q) .len (w .number) ((asked cells q) .goal)) own (w .number)) champ key champ′ key′
+    T = rw (len-goal cells q A P) (S .stood)
+
+    in-row : Within (rowCut (q .width + 1)) 0 (q .height + 1) (w .y) (w .number)
+    in-row = placed-of-row P

@@ -1,8 +1,9 @@
 -- The round of a taken vertex's neighbours, over the lists that the code has: what its contracts say.
 use mathlib.Core.Path.{_≡_}
 use mathlib.Core.List.{List}
-use Prim.Native.Nat.{ℕ, _+_, _-_, _*_, _^_, _≤_, _<_}
+use Prim.Native.Nat.{ℕ, _+_, _-_, _*_, _/_, _^_, _≤_, _<_}
 use lib.ListN.{length, set}
+use Rattle.board.specs.Limits.{side}
 use Rattle.length.specs.Legs.{step}
 use Rattle.length.specs.Units.{units}
 use Rattle.reach.specs.Turns.{at}
@@ -10,7 +11,7 @@ use Rattle.search.specs.declared.Request.{Request}
 use Rattle.search.specs.declared.Spot.{Spot}
 use Rattle.search.specs.Search.{Problem, State, due, relax, around}
 use Rattle.search.specs.Request.{boardOf, asked, sizeOf, Asked, Fitting, Placed, largest}
-use Rattle.search.specs.Rows.{ranked, Champions, Entered, Keyed, Margins, LeftOut}
+use Rattle.search.specs.Rows.{ranked, block, rowCut, blockCut, Champions, Stood, Keyed, Margins, LeftOut}
 use Rattle.search.specs.Lengths.{Known}
 
 abbrev pub state : List ℕ → List ℕ → List ℕ → ℕ → ℕ → State
@@ -63,7 +64,8 @@ pub record Beside (cells : List ℕ) (q : Request) (u w : Spot) : Type 0 where
 
 -- the open list and the table of lengths are right
 pub record Arrays (cells : List ℕ) (q : Request) (g mark champ key margins table : List ℕ) : Type 0 where
-  pub champions : Champions (asked cells q) (q .width + 1) (q .height + 1) g mark champ key
+  pub rows : Champions (asked cells q) (rowCut (q .width + 1)) 0 (q .height + 1) g mark champ key
+  pub blocks : Champions (asked cells q) (blockCut (q .width + 1) (q .height + 1)) (side + 1) (side + 1 + q .height / block + 1) g mark champ key
   pub margined : Margins (q .width + 1) (q .height + 1) mark margins
   pub known : Known table
 
@@ -77,14 +79,15 @@ pub record Settling (q : Request) (w : Spot) (c own : ℕ) (g parent mark champ 
   pub room-g : sizeOf q ≤ length g
   pub room-p : sizeOf q ≤ length parent
   pub room-m : sizeOf q ≤ length mark
-  pub champion : at champ (w .y) ≤ sizeOf q
+  pub row-champion : at champ (w .y) ≤ sizeOf q
+  pub block-champion : at champ (side + 1 + w .y / block) ≤ sizeOf q
   pub margin : 2 * w .y + 1 < length margins
 
--- w has the g `own` and the parent c, is open, and has stood against its row's champion
+-- w has the g `own` and the parent c, is open, and has stood against the champions of its row and its block
 pub record Settled (q : Request) (w : Spot) (c own : ℕ) (g parent mark champ key margins g′ parent′ mark′ champ′ key′ margins′ : List ℕ) : Type 0 where
   pub g-is : g′ ≡ set g (w .number) own
   pub parent-is : parent′ ≡ set parent (w .number) c
   pub mark-is : mark′ ≡ set mark (w .number) 1
-  pub entered : Entered (sizeOf q) g (w .y)
+  pub stood : Stood (sizeOf q) g (w .y)
       (ranked (own + units (step (w .x) (q .gx)) (step (w .y) (q .gy))) own (w .number)) champ key champ′ key′
   pub left-out : LeftOut (w .y) (w .x) (q .width - w .x) margins margins′

@@ -1,15 +1,15 @@
--- The open list by rows: for each row of vertices the open one that is taken first, with its f. The code keeps this; the laws say that it
--- picks what `least` picks.
+-- The open list: for each row of vertices, and for each block of rows, the open one that is taken first, with its f. The code keeps this; the
+-- laws say that it picks what `least` picks.
 use mathlib.Core.Path.{_≡_}
 use mathlib.Core.Logic.{_≢_}
-use mathlib.Core.Bool.{Bool, true, not, _&&_, _||_, cond}
+use mathlib.Core.Bool.{Bool, true, _||_, cond}
 use mathlib.Core.List.{List}
-use Prim.Native.Nat.{ℕ, zero, suc, _+_, _-_, _*_, _^_, _≤_, _<_, min}
+use Prim.Native.Nat.{ℕ, suc, _+_, _-_, _*_, _/_, _^_, _≤_, _<_, min}
 use lib.Dec.{eqb}
 use lib.ListN.{length, set}
 use Rattle.board.specs.Limits.{side}
 use Rattle.reach.specs.Turns.{at}
-use Rattle.search.specs.Search.{Problem, Rank, sooner, rankOf, before, fOf}
+use Rattle.search.specs.Search.{Problem, Rank, sooner, before, fOf}
 
 -- ---- the first of a range
 
@@ -18,6 +18,16 @@ pub data First (p : Problem) (g m : List ℕ) (lo hi r : ℕ) : Type 0 where
   none : r ≡ p .size → ((v : ℕ) → lo ≤ v → v < hi → at m v ≡ 1 → ⊥) → First p g m lo hi r
   some : lo ≤ r → r < hi → at m r ≡ 1 → ((v : ℕ) → lo ≤ v → v < hi → at m v ≡ 1 → before p g v r ≡ true → ⊥) → First p g m lo hi r
 
+-- the key where no vertex is open
+abbrev pub noKey : ℕ
+noKey = 2 ^ 64 - 1
+
+-- r is the first of lo .. hi, and f is its f as it is now; where none is open, f is no key
+pub record Lead (p : Problem) (g m : List ℕ) (lo hi r f : ℕ) : Type 0 where
+  pub first : First p g m lo hi r
+  pub keyed : r ≢ p .size → f ≡ fOf p g r
+  pub blank : r ≡ p .size → f ≡ noKey
+
 abbrev pub ranked : ℕ → ℕ → ℕ → Rank
 ranked f g v = record { f = f; g = g; number = v }
 
@@ -25,55 +35,78 @@ ranked f g v = record { f = f; g = g; number = v }
 abbrev pub beats : ℕ → Rank → Rank → Bool
 beats n a b = eqb (b .number) n || sooner a b
 
--- ---- the rows, each of `wide` vertices
+-- ---- the entries: the vertices are cut into ranges, and entry i has the champion of cut i .. cut (i + 1)
 
--- w is a vertex of row y
-pub record RowOf (wide rows y w : ℕ) : Type 0 where
-  pub on : y < rows
-  pub low : y * wide ≤ w
-  pub high : w < y * wide + wide
+-- the rows of a block
+abbrev pub block : ℕ
+block = 8
 
--- the key of a row with no open vertex
-abbrev pub noKey : ℕ
-noKey = 2 ^ 64 - 1
+-- an entry for each row, then one for each block
+abbrev pub entries : ℕ
+entries = side + 1 + side / block + 1
 
--- the keys are the champions' f as they are now
-abbrev pub KeyedBy : (p : Problem) (rows : ℕ) (g champ key : List ℕ) → Type 0
-KeyedBy p rows g champ key = (y : ℕ) → y < rows → at champ y ≢ p .size → at key y ≡ fOf p g (at champ y)
+-- where the rows are cut, of `wide` vertices each
+abbrev pub rowCut : ℕ → ℕ → ℕ
+rowCut wide i = i * wide
 
--- for each row its first, the champion, and beside it the champion's key; a row with none has no key
-pub record Champions (p : Problem) (wide rows : ℕ) (g m champ key : List ℕ) : Type 0 where
-  pub room-c : rows ≤ length champ
-  pub room-k : rows ≤ length key
-  pub first : (y : ℕ) → y < rows → First p g m (y * wide) (y * wide + wide) (at champ y)
-  pub keyed : KeyedBy p rows g champ key
-  pub blank : (y : ℕ) → y < rows → at champ y ≡ p .size → at key y ≡ noKey
+-- where the blocks of the rows are cut
+abbrev pub blockCut : ℕ → ℕ → ℕ → ℕ
+blockCut wide rows i = min ((i - (side + 1)) * block) rows * wide
 
--- of the first y rows' champions, the one before the others
-unfoldable pub top : Problem → List ℕ → List ℕ → ℕ → ℕ
-top p g champ zero = p .size
-top p g champ (suc y) =
-    let r = top p g champ y in
-    cond (not (eqb (at champ y) (p .size)) && beats (p .size) (rankOf p g (at champ y)) (rankOf p g r)) (at champ y) r
+-- the cuts rise, and none of the entries' is beyond the n vertices
+pub record Rising (n : ℕ) (cut : ℕ → ℕ) (to : ℕ) : Type 0 where
+  pub up : (i : ℕ) → cut i ≤ cut (suc i)
+  pub inside : cut to ≤ n
+
+-- w is a vertex of the range of entry i
+pub record Within (cut : ℕ → ℕ) (from to i w : ℕ) : Type 0 where
+  pub from-on : from ≤ i
+  pub to-on : i < to
+  pub low : cut i ≤ w
+  pub high : w < cut (suc i)
+
+-- each entry from .. to has its range's champion, and beside it the champion's key
+pub record Champions (p : Problem) (cut : ℕ → ℕ) (from to : ℕ) (g m champ key : List ℕ) : Type 0 where
+  pub room-c : to ≤ length champ
+  pub room-k : to ≤ length key
+  pub lead : (i : ℕ) → from ≤ i → i < to → Lead p g m (cut i) (cut (suc i)) (at champ i) (at key i)
 
 -- ---- what the calls of the open list need and leave
 
--- of n vertices: each row's champion is one, or there is none and the key says so
-pub record Entries (n rows : ℕ) (g champ key : List ℕ) : Type 0 where
-  pub few : rows ≤ side + 1
+-- of n vertices: each champion is one, or there is none and the key says so
+pub record Entries (n from to : ℕ) (g champ key : List ℕ) : Type 0 where
+  pub forward : from ≤ to
+  pub few : to ≤ entries
   pub room : n ≤ length g
-  pub on : (y : ℕ) → y < rows → at champ y ≤ n
-  pub small : (y : ℕ) → y < rows → at key y ≤ noKey
-  pub blank : (y : ℕ) → y < rows → at champ y ≡ n → at key y ≡ noKey
+  pub on : (i : ℕ) → from ≤ i → i < to → at champ i ≤ n
+  pub small : (i : ℕ) → from ≤ i → i < to → at key i ≤ noKey
+  pub blank : (i : ℕ) → from ≤ i → i < to → at champ i ≡ n → at key i ≡ noKey
 
--- r is the first of the champions, for every problem whose f they are keyed by
-pub record Picked (n rows : ℕ) (g champ key : List ℕ) (r : ℕ) : Type 0 where
-  pub is : (p : Problem) → p .size ≡ n → KeyedBy p rows g champ key → r ≡ top p g champ rows
+-- r and f lead the ranges of the entries together, whatever the cuts and the marks are
+pub record Picked (n from to : ℕ) (g champ key : List ℕ) (r f : ℕ) : Type 0 where
+  pub on : r ≤ n
+  pub is : (p : Problem) (m : List ℕ) (cut : ℕ → ℕ) → p .size ≡ n → Rising n cut to → Champions p cut from to g m champ key
+      → Lead p g m (cut from) (cut to) r f
 
--- row y after a vertex of rank a has stood against the row's champion
-pub record Entered (n : ℕ) (g : List ℕ) (y : ℕ) (a : Rank) (champ key champ′ key′ : List ℕ) : Type 0 where
-  pub champ-is : champ′ ≡ cond (beats n a (ranked (at key y) (at g (at champ y)) (at champ y))) (set champ y (a .number)) champ
-  pub key-is : key′ ≡ cond (beats n a (ranked (at key y) (at g (at champ y)) (at champ y))) (set key y (a .f)) key
+-- entry i after a vertex of rank a has stood against its champion
+pub record Entered (n : ℕ) (g : List ℕ) (i : ℕ) (a : Rank) (champ key champ′ key′ : List ℕ) : Type 0 where
+  pub champ-is : champ′ ≡ cond (beats n a (ranked (at key i) (at g (at champ i)) (at champ i))) (set champ i (a .number)) champ
+  pub key-is : key′ ≡ cond (beats n a (ranked (at key i) (at g (at champ i)) (at champ i))) (set key i (a .f)) key
+
+-- a vertex of rank a, in row y, has stood against the champion of its row and then against that of its block
+pub record Stood (n : ℕ) (g : List ℕ) (y : ℕ) (a : Rank) (champ key champ′ key′ : List ℕ) : Type 0 where
+  pub champ-between : List ℕ
+  pub key-between : List ℕ
+  pub in-row : Entered n g y a champ key champ-between key-between
+  pub in-block : Entered n g (side + 1 + y / block) a champ-between key-between champ′ key′
+
+-- entry i after its range has been looked through
+pub record Renewed (p : Problem) (cut : ℕ → ℕ) (i : ℕ) (g m champ key champ′ key′ : List ℕ) : Type 0 where
+  pub vertex : ℕ
+  pub f : ℕ
+  pub lead : Lead p g m (cut i) (cut (suc i)) vertex f
+  pub champ-is : champ′ ≡ set champ i vertex
+  pub key-is : key′ ≡ set key i f
 
 -- each of n vertices has its entries, and no open one's g is above `most`
 pub record Keyed (n most : ℕ) (g m : List ℕ) : Type 0 where
@@ -95,13 +128,3 @@ pub record LeftOut (y x right : ℕ) (margins margins′ : List ℕ) : Type 0 wh
   pub left-is : at margins′ (2 * y) ≡ min (at margins (2 * y)) x
   pub right-is : at margins′ (2 * y + 1) ≡ min (at margins (2 * y + 1)) right
   pub other : (i : ℕ) → i ≢ 2 * y → i ≢ 2 * y + 1 → at margins′ i ≡ at margins i
-
--- row y after it has been looked through
-pub record Rescanned (p : Problem) (wide y : ℕ) (g m champ key champ′ key′ : List ℕ) : Type 0 where
-  pub least : ℕ
-  pub f : ℕ
-  pub is : First p g m (y * wide) (y * wide + wide) least
-  pub right : least ≢ p .size → f ≡ fOf p g least
-  pub blank : least ≡ p .size → f ≡ noKey
-  pub champ-is : champ′ ≡ set champ y least
-  pub key-is : key′ ≡ set key y f

@@ -12,6 +12,8 @@ use crate::Outcome;
 use crate::Request;
 use crate::lengths::PLACES;
 use crate::lengths::units_between;
+use crate::open::BLOCK;
+use crate::open::ENTRIES;
 use crate::open::MARGINS;
 use crate::open::NO_KEY;
 use crate::open::leave_out;
@@ -42,12 +44,15 @@ pub fn find(
     let none = (width + 1) * (height + 1);
     let start = number_of(width, sx, sy);
     begin(none, start, g, parents, marks);
-    let mut champions = [none as Vertex; LINE];
-    let mut keys = [NO_KEY; LINE];
+    let mut champions = [none as Vertex; ENTRIES];
+    let mut keys = [NO_KEY; ENTRIES];
     let mut margins = [width as u32 + 1; MARGINS];
     let mut table = [0u32; PLACES];
+    let f = units_between(sx, sy, gx, gy, &mut table);
     champions[sy] = start;
-    keys[sy] = units_between(sx, sy, gx, gy, &mut table);
+    keys[sy] = f;
+    champions[LINE + sy / BLOCK] = start;
+    keys[LINE + sy / BLOCK] = f;
     leave_out(sy, sx, width - sx, &mut margins);
     let request = Request {
         width,

@@ -1,10 +1,10 @@
 // The lengths of legs, from a table that is filled on demand: a root is dear, and the same differences come again and again.
 ghost use mathlib.Core.Path.{_≡_};
-ghost use Prim.Native.Nat.{_+_, _-_, _*_, _≤_};
+ghost use Prim.Native.Nat.{_+_, _-_, _*_, _≤_, _<_};
 ghost use Rattle.board.specs.Limits.{side};
 ghost use Rattle.length.specs.Legs.{step};
 ghost use Rattle.length.specs.Units.{unitsOf, units};
-ghost use Rattle.search.specs.Lengths.{Known};
+ghost use Rattle.search.specs.Lengths.{known, place, Known};
 use length::inner::units_of;
 
 // Differences below this have a place in the table; it does not grow with the board.
@@ -19,6 +19,14 @@ fn apart(a: usize, b: usize) -> usize
     if a < b { b - a } else { a - b }
 }
 
+// The place in the table of a leg that is x columns wide and y rows high. Turned by a right angle it is as long: it has the same place.
+fn place_of(x: usize, y: usize) -> usize
+    requires { ⌜ (x < known) × (y < known) ⌝ }
+    ensures { λ r. ⌜ r ≡ place x y ⌝ }
+{
+    if x < y { y * KNOWN + x } else { x * KNOWN + y }
+}
+
 // The units of a leg that is x columns wide and y rows high.
 fn units_by(x: usize, y: usize, table: &mut [u32; PLACES]) -> u64
     requires { ⌜ (x ≤ side) × (y ≤ side) ⌝ }
@@ -29,13 +37,13 @@ fn units_by(x: usize, y: usize, table: &mut [u32; PLACES]) -> u64
     if (KNOWN <= x) | (KNOWN <= y) {
         return units_of(x as u64, y as u64);
     }
-    let place = x * KNOWN + y;
-    let entry = table[place];
+    let at = place_of(x, y);
+    let entry = table[at];
     if entry != 0 {
         return entry as u64;
     }
     let units = units_of(x as u64, y as u64);
-    table[place] = units as u32;
+    table[at] = units as u32;
     units
 }
 

@@ -1,21 +1,29 @@
-// The open list: for each row of vertices its champion, the open one that is taken first, and the champion's f.
-// A key is never stale: it is its champion's f as it is now (`no-stale-key`).
+// The open list: for each row of vertices, and for each block of rows, its champion, the open vertex that is taken first, and the
+// champion's f. A key is never stale: it is its champion's f as it is now (`no-stale-key`).
 ghost use mathlib.Core.Path.{_≡_};
 ghost use mathlib.Core.List.{List};
-ghost use Prim.Native.Nat.{ℕ, _+_, _*_, _≤_, _<_, min};
+ghost use Prim.Native.Nat.{ℕ, _+_, _*_, _/_, _≤_, _<_, min};
 ghost use lib.ListN.{length};
 ghost use Rattle.board.specs.Limits.{side, mostVertices};
 ghost use Rattle.reach.specs.Turns.{at};
 ghost use Rattle.search.specs.Request.{Fitting, asked, sizeOf, largest};
-ghost use Rattle.search.specs.Rows.{ranked, beats, Entries, Picked, Entered, Rescanned, Keyed, Margins, LeftOut};
+ghost use Rattle.search.specs.Search.{Problem};
+ghost use Rattle.search.specs.Rows.{ranked, beats, block, entries, rowCut, blockCut, Champions, Entries, Picked, Entered, Stood, Renewed, Keyed, Margins, LeftOut};
 ghost use Rattle.search.specs.Lengths.{Known};
 use crate::Request;
 use crate::lengths::PLACES;
 use crate::lengths::units_between;
 use board::LINE;
+use board::SIDE;
 use board::Vertex;
 
-// The key of a row with no open vertex.
+// The rows of a block. The champions of eight blocks and of eight rows are sooner looked through than those of 64 rows.
+pub const BLOCK: usize = 8;
+
+// An entry for each row, then one for each block.
+pub const ENTRIES: usize = LINE + SIDE / BLOCK + 1;
+
+// The key of an entry with no open vertex.
 pub const NO_KEY: u64 = 0xffff_ffff_ffff_ffff;
 
 // For each row y its margins, `margins[2 * y]` columns at the left and `margins[2 * y + 1]` at the right, with no open vertex.
@@ -40,24 +48,31 @@ fn ahead(none: usize, f: u64, own: u64, v: usize, key: u64, holder: usize, g: &[
     v < holder
 }
 
-// The vertex that is taken next, of the rows' champions; `none` if there is none.
+// An open vertex and its f; or the number `none`, and no key.
+pub struct Leader {
+    pub vertex: usize,
+    pub f: u64,
+}
+
+// The champion that is taken first, of the entries from .. to.
 pub fn pick(
     none: usize,
-    rows: usize,
+    from: usize,
+    to: usize,
     g: &[u64],
-    champions: &[Vertex; LINE],
-    keys: &[u64; LINE],
-) -> usize
-    requires { ⌜ Entries none rows (now g) (now champions) (now keys) ⌝ }
-    ensures { λ r. ⌜ Picked none rows (now (g .entry)) (now (champions .entry)) (now (keys .entry)) r ⌝ }
+    champions: &[Vertex; ENTRIES],
+    keys: &[u64; ENTRIES],
+) -> Leader
+    requires { ⌜ Entries none from to (now g) (now champions) (now keys) ⌝ }
+    ensures { λ r. ⌜ Picked none from to (now (g .entry)) (now (champions .entry)) (now (keys .entry)) (r .vertex) (r .f) ⌝ }
 {
     let mut first = none;
     let mut f = NO_KEY;
-    let mut y = 0;
-    while y < rows {
-        let key = keys[y];
+    let mut i = from;
+    while i < to {
+        let key = keys[i];
         if key <= f {
-            let v = champions[y] as usize;
+            let v = champions[i] as usize;
             if v != none {
                 if ahead(none, key, g[v], v, f, first, g) {
                     first = v;
@@ -65,9 +80,40 @@ pub fn pick(
                 }
             }
         }
-        y += 1;
+        i += 1;
     }
-    first
+    Leader { vertex: first, f }
+}
+
+// The end of a block's rows, of which there are so many in all.
+fn block_end(from: usize, rows: usize) -> usize
+    requires { ⌜ from < rows ⌝ }
+    ensures { λ r. ⌜ r ≡ min (from + block) rows ⌝ }
+{
+    if rows - from < BLOCK {
+        rows
+    } else {
+        from + BLOCK
+    }
+}
+
+// The entry of the block b, of this many rows, by its rows' champions.
+pub fn renew_block(
+    none: usize,
+    rows: usize,
+    b: usize,
+    g: &[u64],
+    champions: &mut [Vertex; ENTRIES],
+    keys: &mut [u64; ENTRIES],
+)
+    requires { ⌜ Entries none 0 rows (now g) (now champions) (now keys) ⌝ }
+    requires { ⌜ (none ≤ mostVertices) × (rows ≤ side + 1) × (b * block < rows) ⌝ }
+    ensures { λ r. ⌜ ((p : Problem) (m : List ℕ) (wide : ℕ) → p .size ≡ none → p .size ≡ rows * wide → Champions p (rowCut wide) 0 rows (now (g .entry)) m (now (champions .entry)) (now (keys .entry)) → Renewed p (blockCut wide rows) (side + 1 + b) (now (g .entry)) m (now (champions .entry)) (now (keys .entry)) (now (champions .exit)) (now (keys .exit))) ⌝ }
+{
+    let from = b * BLOCK;
+    let leader = pick(none, from, block_end(from, rows), g, champions, keys);
+    champions[LINE + b] = leader.vertex as Vertex;
+    keys[LINE + b] = leader.f;
 }
 
 // The row y is looked through for its champion.
@@ -76,8 +122,8 @@ pub fn rescan(
     y: usize,
     g: &[u64],
     marks: &[u8],
-    champions: &mut [Vertex; LINE],
-    keys: &mut [u64; LINE],
+    champions: &mut [Vertex; ENTRIES],
+    keys: &mut [u64; ENTRIES],
     margins: &[u32; MARGINS],
     table: &mut [u32; PLACES],
 )
@@ -85,7 +131,7 @@ pub fn rescan(
     requires { ⌜ Margins (request .width + 1) (request .height + 1) (now marks) (now margins) ⌝ }
     requires { ⌜ Keyed (sizeOf request) (largest (request .width) (request .height)) (now g) (now marks) ⌝ }
     requires { ⌜ Known (now table) ⌝ }
-    ensures { λ r. ⌜ ((cells : List ℕ) → Rescanned (asked cells request) (request .width + 1) y (now (g .entry)) (now (marks .entry)) (now (champions .entry)) (now (keys .entry)) (now (champions .exit)) (now (keys .exit))) ⌝ }
+    ensures { λ r. ⌜ ((cells : List ℕ) → Renewed (asked cells request) (rowCut (request .width + 1)) y (now (g .entry)) (now (marks .entry)) (now (champions .entry)) (now (keys .entry)) (now (champions .exit)) (now (keys .exit))) ⌝ }
     ensures { λ r. ⌜ Known (now (table .exit)) ⌝ }
 {
     let wide = request.width + 1;
@@ -111,26 +157,45 @@ pub fn rescan(
     keys[y] = f;
 }
 
-// The vertex v, with this f and g, stands against the champion of its row y.
-pub fn enter(
+// The vertex v, with this f and g, stands against the champion of the entry i.
+fn enter(
+    none: usize,
+    i: usize,
+    v: usize,
+    own: u64,
+    f: u64,
+    g: &[u64],
+    champions: &mut [Vertex; ENTRIES],
+    keys: &mut [u64; ENTRIES],
+)
+    requires { ⌜ (i < entries) × (v < none) × (none ≤ mostVertices) × (none ≤ length (now g)) ⌝ }
+    requires { ⌜ at (now champions) i ≤ none ⌝ }
+    ensures { λ r. ⌜ Entered none (now (g .entry)) i (ranked f own v) (now (champions .entry)) (now (keys .entry)) (now (champions .exit)) (now (keys .exit)) ⌝ }
+{
+    let holder = champions[i] as usize;
+    if ahead(none, f, own, v, keys[i], holder, g) {
+        champions[i] = v as Vertex;
+        keys[i] = f;
+    }
+}
+
+// The vertex v of the row y, with this f and g, stands against the champions of its row and its block.
+pub fn stand(
     none: usize,
     y: usize,
     v: usize,
     own: u64,
     f: u64,
     g: &[u64],
-    champions: &mut [Vertex; LINE],
-    keys: &mut [u64; LINE],
+    champions: &mut [Vertex; ENTRIES],
+    keys: &mut [u64; ENTRIES],
 )
     requires { ⌜ (y ≤ side) × (v < none) × (none ≤ mostVertices) × (none ≤ length (now g)) ⌝ }
-    requires { ⌜ at (now champions) y ≤ none ⌝ }
-    ensures { λ r. ⌜ Entered none (now (g .entry)) y (ranked f own v) (now (champions .entry)) (now (keys .entry)) (now (champions .exit)) (now (keys .exit)) ⌝ }
+    requires { ⌜ (at (now champions) y ≤ none) × (at (now champions) (side + 1 + y / block) ≤ none) ⌝ }
+    ensures { λ r. ⌜ Stood none (now (g .entry)) y (ranked f own v) (now (champions .entry)) (now (keys .entry)) (now (champions .exit)) (now (keys .exit)) ⌝ }
 {
-    let holder = champions[y] as usize;
-    if ahead(none, f, own, v, keys[y], holder, g) {
-        champions[y] = v as Vertex;
-        keys[y] = f;
-    }
+    enter(none, y, v, own, f, g, champions, keys);
+    enter(none, LINE + y / BLOCK, v, own, f, g, champions, keys);
 }
 
 // The lesser of two.

@@ -11,10 +11,10 @@ use crate::Request;
 use crate::Spot;
 use crate::lengths::PLACES;
 use crate::lengths::units_between;
+use crate::open::ENTRIES;
 use crate::open::MARGINS;
-use crate::open::enter;
 use crate::open::leave_out;
-use board::LINE;
+use crate::open::stand;
 use board::Vertex;
 use sight::inner::sees;
 use sight::inner::sees_neighbour;
@@ -40,7 +40,7 @@ fn candidate(cells: &[u8], request: Request, u: Spot, parent: Spot, w: Spot) -> 
     }
 }
 
-// The vertex w opens, or its g falls: it gets the g `own` and this parent, and stands against its row's champion.
+// The vertex w opens, or its g falls: it gets the g `own` and this parent, and stands against the champions of its row and its block.
 fn settle(
     request: Request,
     w: Spot,
@@ -49,8 +49,8 @@ fn settle(
     g: &mut [u64],
     parents: &mut [Vertex],
     marks: &mut [u8],
-    champions: &mut [Vertex; LINE],
-    keys: &mut [u64; LINE],
+    champions: &mut [Vertex; ENTRIES],
+    keys: &mut [u64; ENTRIES],
     margins: &mut [u32; MARGINS],
     table: &mut [u32; PLACES],
 )
@@ -62,7 +62,7 @@ fn settle(
     let v = w.number;
     let f = own + units_between(w.x, w.y, request.gx, request.gy, table);
     let none = (request.width + 1) * (request.height + 1);
-    enter(none, w.y, v, own, f, g, champions, keys);
+    stand(none, w.y, v, own, f, g, champions, keys);
     leave_out(w.y, w.x, request.width - w.x, margins);
     g[v] = own;
     parents[v] = parent as Vertex;
@@ -81,8 +81,8 @@ fn look(
     g: &mut [u64],
     parents: &mut [Vertex],
     marks: &mut [u8],
-    champions: &mut [Vertex; LINE],
-    keys: &mut [u64; LINE],
+    champions: &mut [Vertex; ENTRIES],
+    keys: &mut [u64; ENTRIES],
     margins: &mut [u32; MARGINS],
     table: &mut [u32; PLACES],
 ) -> u64
@@ -148,8 +148,8 @@ pub fn round(
     g: &mut [u64],
     parents: &mut [Vertex],
     marks: &mut [u8],
-    champions: &mut [Vertex; LINE],
-    keys: &mut [u64; LINE],
+    champions: &mut [Vertex; ENTRIES],
+    keys: &mut [u64; ENTRIES],
     margins: &mut [u32; MARGINS],
     table: &mut [u32; PLACES],
 ) -> u64

@@ -13,8 +13,11 @@ use crate::Outcome;
 use crate::Request;
 use crate::Spot;
 use crate::lengths::PLACES;
+use crate::open::BLOCK;
+use crate::open::ENTRIES;
 use crate::open::MARGINS;
 use crate::open::pick;
+use crate::open::renew_block;
 use crate::open::rescan;
 use crate::round::round;
 use board::LINE;
@@ -52,7 +55,7 @@ fn spot_of(width: usize, v: Vertex) -> Spot
     }
 }
 
-// The vertex v is expanded: it leaves its row's open vertices, and its neighbours are looked at. The sight tests so far go in
+// The vertex v is expanded: it leaves the open vertices of its row and its block, and its neighbours are looked at. The sight tests so far go in
 // and come out.
 fn expand(
     cells: &[u8],
@@ -62,8 +65,8 @@ fn expand(
     g: &mut [u64],
     parents: &mut [Vertex],
     marks: &mut [u8],
-    champions: &mut [Vertex; LINE],
-    keys: &mut [u64; LINE],
+    champions: &mut [Vertex; ENTRIES],
+    keys: &mut [u64; ENTRIES],
     margins: &mut [u32; MARGINS],
     table: &mut [u32; PLACES],
 ) -> u64
@@ -78,6 +81,8 @@ fn expand(
     let parent = spot_of(request.width, parents[v]);
     marks[v] = 2;
     rescan(request, u.y, g, marks, champions, keys, margins, table);
+    let none = (request.width + 1) * (request.height + 1);
+    renew_block(none, request.height + 1, u.y / BLOCK, g, champions, keys);
     round(
         cells,
         request,
@@ -101,8 +106,8 @@ pub fn run(
     g: &mut [u64],
     parents: &mut [Vertex],
     marks: &mut [u8],
-    champions: &mut [Vertex; LINE],
-    keys: &mut [u64; LINE],
+    champions: &mut [Vertex; ENTRIES],
+    keys: &mut [u64; ENTRIES],
     margins: &mut [u32; MARGINS],
     table: &mut [u32; PLACES],
 ) -> Outcome
@@ -113,10 +118,12 @@ pub fn run(
 {
     let none = (request.width + 1) * (request.height + 1);
     let goal = number_of(request.width, request.gx, request.gy) as usize;
+    let end = LINE + request.height / BLOCK + 1;
     let mut expansions: u64 = 0;
     let mut tests: u64 = 0;
     let found = 'turns: loop {
-        let v = pick(none, request.height + 1, g, champions, keys);
+        let leader = pick(none, LINE, end, g, champions, keys);
+        let v = leader.vertex;
         if v == none {
             break 'turns false;
         }

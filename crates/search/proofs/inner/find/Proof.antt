@@ -51,20 +51,38 @@ cast-margins c = search needs
 add-margins : tie.Need-add-margins
 add-margins c = search needs
 
+units-between-requires : tie.Need-units-between-requires
+units-between-requires c κs = let A = asked-for (c .before .before .before .before .before .before .before .before .before .before .before .before .before .before .before .before) in (omega (arith, A .start, A .goal, A .sound), known-none)
+
 mul-champions : tie.Need-mul-champions
 mul-champions c = search needs
 
 array-write-champions : tie.Need-array-write-champions
 array-write-champions c = search needs
 
-units-between-requires : tie.Need-units-between-requires
-units-between-requires c κs = let A = asked-for (c .before .before .before .before .before .before .before .before .before .before .before .before .before .before .before .before) in (omega (arith, A .start, A .goal, A .sound), known-none)
-
 mul-keys : tie.Need-mul-keys
 mul-keys c = search needs
 
 array-write-keys : tie.Need-array-write-keys
 array-write-keys c = search needs
+
+add-champions : tie.Need-add-champions
+add-champions c = search needs
+
+mul-champions-2 : tie.Need-mul-champions-2
+mul-champions-2 c = search needs
+
+array-write-champions-2 : tie.Need-array-write-champions-2
+array-write-champions-2 c = search needs
+
+add-keys : tie.Need-add-keys
+add-keys c = search needs
+
+mul-keys-2 : tie.Need-mul-keys-2
+mul-keys-2 c = search needs
+
+array-write-keys-2 : tie.Need-array-write-keys-2
+array-write-keys-2 c = search needs
 
 sub-leave-out : tie.Need-sub-leave-out
 sub-leave-out c = search needs
@@ -112,11 +130,17 @@ find-spec =
     cast-champions
     cast-margins
     add-margins
+    units-between-requires
     mul-champions
     array-write-champions
-    units-between-requires
     mul-keys
     array-write-keys
+    add-champions
+    mul-champions-2
+    array-write-champions-2
+    add-keys
+    mul-keys-2
+    array-write-keys-2
     sub-leave-out
     leave-out-requires
     run-requires

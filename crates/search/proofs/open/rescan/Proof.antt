@@ -4,6 +4,7 @@ use mathlib.Core.Bool.{true, false}
 use mathlib.Core.List.{List, []}
 use mathlib.Core.Logic.{⊎-elim}
 use Prim.Native.Nat.{ℕ, _+_, _-_, _*_, _≤_, _<_}
+use native.Mathlib.Nat.{suc-mul}
 use native.Mathlib.Omega.{arith}
 use denote.Ref.{now}
 use Rattle.board.specs.Limits.{mostVertices, vertices-fit}
@@ -12,18 +13,19 @@ use Rattle.length.specs.Units.{units}
 use Rattle.reach.specs.Turns.{at}
 use Rattle.search.specs.Search.{fOf}
 use Rattle.search.specs.Request.{problem, boardOf, asked}
+use Rattle.search.specs.Rows.{Lead}
 use Rattle.search.specs.Lengths.{Known}
 use Rattle.search.proofs.First.{first-wider}
 use Rattle.search.proofs.Rows.{rows-le}
 use Rattle.search.proofs.Margin.{between-margins}
 use Rattle.search.proofs.Sizes.{vertices-most, largest-fits, leg-longest, units-number}
-use Rattle.search.proofs.Scans.{Scanning, scanning-start, scanning-none, scanning-more, scanning-on, scanning-le}
+use Rattle.search.proofs.Scans.{lead-none, lead-closed, lead-open, lead-on, lead-le}
 use Rattle.search.proofs.open.rescan.Statement.{statement}
 use Rattle.search.proofs.open.rescan.Tie as tie
 
 abbrev Inv-loop : tie.InvT-loop
 Inv-loop request y g marks champions keys margins table₀ wide none first₀ f₀ row x₀ end table first f x = (at margins (2 * y) ≤ x) × (x ≤ wide)
-    × ((cells : List ℕ) → Scanning (asked cells request) g marks (row + at margins (2 * y)) (row + x) first f) × Known table
+    × ((cells : List ℕ) → Lead (asked cells request) g marks (row + at margins (2 * y)) (row + x) first f) × Known table
 
 abbrev μ-loop : tie.MeasureT-loop
 μ-loop request y g marks champions keys margins table₀ wide none first₀ f₀ row x₀ end table first f x = end - x
@@ -93,7 +95,7 @@ loop-holds c =
     let a = s .args in (
       omega arith,
       left-fits s,
-      (λ cells. scanning-start (asked cells (a .request)) (now (a .g)) (now (a .marks)) (a .y * (a .request .width + 1) + at (now (a .margins)) (2 * a .y))),
+      (λ cells. lead-none (asked cells (a .request)) (now (a .g)) (now (a .marks)) (a .y * (a .request .width + 1) + at (now (a .margins)) (2 * a .y))),
       s .pre .1 .1 .1,
     )
 
@@ -159,7 +161,7 @@ unfolding problem
 ahead-requires c κs =
     let k = c .before .before .before .before .before in
     let s = start (k .before) in
-    λ d. omega (arith, scanning-on (k .before .loop .inv .2 []) d, on k, s .pre .1 .1 .0 .room-g)
+    λ d. omega (arith, lead-on (k .before .loop .inv .2 []) d, on k, s .pre .1 .1 .0 .room-g)
 
 add-x : tie.Need-add-x Inv-loop μ-loop
 add-x c = let k = c .before .before in omega (arith, column k, start (k .before) .pre .0 .narrow)
@@ -176,20 +178,20 @@ loop-again c =
     let a = s .args in
     let lo = a .y * (a .request .width + 1) + at (now (a .margins)) (2 * a .y) in
     let v = a .y * (a .request .width + 1) + l .x in
-    let next : ((cells : List ℕ) → Scanning (asked cells (a .request)) (now (a .g)) (now (a .marks)) lo (v + 1) (c .if1 .first) (c .if1 .f)) × Known (c .if1 .table) =
+    let next : ((cells : List ℕ) → Lead (asked cells (a .request)) (now (a .g)) (now (a .marks)) lo (v + 1) (c .if1 .first) (c .if1 .f)) × Known (c .if1 .table) =
     ⊎-elim
     (λ w. (
       (λ cells. rw (w .7, w .8)
-          (scanning-more (l .inv .2 cells) (omega arith) (on k) _ (w .0 .taken) (key-is k cells _ (w .3 .ensures .0)) true (sym (w .5 .taken) ∙ w .4 .ensures))),
+          (lead-open (l .inv .2 cells) (omega arith) (on k) _ (w .0 .taken) (key-is k cells _ (w .3 .ensures .0)) true (sym (w .5 .taken) ∙ w .4 .ensures))),
       rw (w .6) (w .3 .ensures .1),
     ))
     (⊎-elim
     (λ w. (
       (λ cells. rw (w .7, w .8)
-          (scanning-more (l .inv .2 cells) (omega arith) (on k) _ (w .0 .taken) (key-is k cells _ (w .3 .ensures .0)) false (sym (w .5 .left) ∙ w .4 .ensures))),
+          (lead-open (l .inv .2 cells) (omega arith) (on k) _ (w .0 .taken) (key-is k cells _ (w .3 .ensures .0)) false (sym (w .5 .left) ∙ w .4 .ensures))),
       rw (w .6) (w .3 .ensures .1),
     ))
-    (λ w. ((λ cells. rw (w .2, w .3) (scanning-none (l .inv .2 cells) (omega arith) (on k) (w .0 .left))), rw (w .1) (l .inv .3))))
+    (λ w. ((λ cells. rw (w .2, w .3) (lead-closed (l .inv .2 cells) (omega arith) (on k) (w .0 .left))), rw (w .1) (l .inv .3))))
     (c .if1 .came) in
     let e : a .y * (a .request .width + 1) + (l .x + 1) ≡ v + 1 = omega arith in
     (omega arith, omega (arith, column k), (λ cells. rw e (next .0 cells)), next .1)
@@ -198,7 +200,7 @@ cast-champions : tie.Need-cast-champions Inv-loop μ-loop
 unfolding problem
 cast-champions c =
     let s = start (c .before) in
-    omega (arith, scanning-le (c .before .loop .inv .2 []) (omega (arith, inside s)), few s, vertices-fit)
+    omega (arith, lead-le (c .before .loop .inv .2 []) (omega (arith, inside s)), few s, vertices-fit)
 
 mul-champions : tie.Need-mul-champions Inv-loop μ-loop
 mul-champions c = let s = start (c .before) in omega (arith, s .pre .0)
@@ -219,12 +221,16 @@ returns c =
     let a = s .args in
     let wide = a .request .width + 1 in (
       (λ cells. record {
-        least = l .first;
+        vertex = l .first;
         f = l .f;
-        is = first-wider (a .y * wide) (a .y * wide + wide) (omega arith) (omega arith)
-            (λ v i j o. let q = between-margins (s .pre .1 .0) (a .y) (on-row s) v i j o in (q .0, omega (arith, q .1, c .loop-test .left))) (l .inv .2 cells .is);
-        right = l .inv .2 cells .right;
-        blank = l .inv .2 cells .blank;
+        lead = record {
+          first = rw (suc-mul (a .y) wide)
+              (first-wider (a .y * wide) (a .y * wide + wide) (omega arith) (omega arith)
+              (λ v i j o. let q = between-margins (s .pre .1 .0) (a .y) (on-row s) v i j o in (q .0, omega (arith, q .1, c .loop-test .left)))
+              (l .inv .2 cells .first));
+          keyed = l .inv .2 cells .keyed;
+          blank = l .inv .2 cells .blank;
+        };
         champ-is = refl;
         key-is = refl;
       }),

@@ -2,21 +2,22 @@
 use mathlib.Core.Path.{_≡_, sym, ap, _∙_}
 use mathlib.Core.Logic.{⊎-elim, _≢_}
 use mathlib.Core.Bool.{cond}
-use Prim.Native.Nat.{ℕ, _+_, _^_, _≤_, _<_}
+use Prim.Native.Nat.{ℕ, _+_, _/_, _^_, _≤_, _<_}
 use native.Mathlib.Omega.{arith}
 use borrow.Author.Needs.{needs}
 use borrow.Author.Tests.{not-true, not-false}
 use denote.Ref.{now}
 use lib.ListN.{length, length-set}
-use Rattle.board.specs.Limits.{mostVertices}
+use Rattle.board.specs.Limits.{side, mostVertices}
 use Rattle.sight.specs.Sight.{sees}
 use Rattle.reach.specs.Turns.{at}
 use Rattle.search.specs.Search.{Problem}
 use Rattle.search.specs.Request.{problem, boardOf, asked, sizeOf, Placed, largest}
+use Rattle.search.specs.Rows.{block}
 use Rattle.search.proofs.Rows.{champion-le}
 use Rattle.search.proofs.Rounds.{look-far, look-done, look-won, look-lost, fell, ready-candidate}
 use Rattle.search.proofs.Sizes.{vertices-most, largest-fits, leg-longest}
-use Rattle.search.proofs.Places.{sized, placed-below, placed-cond, len-placed, candidate-number, beside-neighbours, beside-near}
+use Rattle.search.proofs.Places.{rising-rows, rising-blocks, placed-below, placed-cond, len-placed, candidate-number, beside-neighbours, beside-near}
 use Rattle.search.proofs.Settled.{settled-arrays}
 use Rattle.search.proofs.round.look.Statement.{statement}
 use Rattle.search.proofs.round.look.Tie as tie
@@ -153,7 +154,9 @@ settle-requires c κs =
         room-g = R .room-g;
         room-p = R .room-p;
         room-m = R .room-m;
-        champion = champion-le (D .champions) (sized (now (s .args .cells)) (s .args .request)) (s .args .w .y) row;
+        row-champion = champion-le (D .rows) (rising-rows (now (s .args .cells)) (s .args .request)) (s .args .w .y) (omega arith) row;
+        block-champion = champion-le (D .blocks) (rising-blocks (now (s .args .cells)) (s .args .request)) (side + 1 + s .args .w .y / block) (omega arith)
+            (omega (arith, row));
         margin = omega (arith, D .margined .room, row);
       },
       j .units-between .ensures .1,
@@ -199,7 +202,7 @@ returns-3 c =
       rw (w .1, w .2, w .3)
           (look-lost (asking s) (a .u .number) (a .w .number) g (now (a .parents)) m (a .tests) near (e .if1 .left) (k .candidate .result .number) _ (from-is k) own (w .0 .left)),
       rw (w .1, w .3, w .4, w .5, w .6, w .7)
-          (record { champions = s .pre .1 .1 .1 .champions; margined = s .pre .1 .1 .1 .margined; known = j .units-between .ensures .1 }),
+          (record { rows = s .pre .1 .1 .1 .rows; blocks = s .pre .1 .1 .1 .blocks; margined = s .pre .1 .1 .1 .margined; known = j .units-between .ensures .1 }),
     ))
     (c .if3 .came)
 

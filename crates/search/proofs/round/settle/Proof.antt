@@ -41,11 +41,11 @@ add-none-2 c = let s = start (c .before .before) in omega (arith, few s)
 mul-none : tie.Need-mul-none
 mul-none c = let s = start (c .before .before) in omega (arith, few s)
 
-enter-requires : tie.Need-enter-requires
-enter-requires c κs =
+stand-requires : tie.Need-stand-requires
+stand-requires c κs =
     let s = start (c .before .before .before .before .before) in
     let R = s .pre .0 in
-    (omega (arith, R .fitting, R .on, few s, R .room-g), R .champion)
+    (omega (arith, R .fitting, R .on, few s, R .room-g), (R .row-champion, R .block-champion))
 
 sub-leave-out : tie.Need-sub-leave-out
 sub-leave-out c = let s = start (c .before .before .before .before .before .before .before .before) in s .pre .0 .column
@@ -89,7 +89,7 @@ returns c =
         g-is = refl;
         parent-is = refl;
         mark-is = refl;
-        entered = rw (k .units-between .ensures .0) at (c .before .before .before .before .enter .ensures);
+        stood = rw (k .units-between .ensures .0) at (c .before .before .before .before .stand .ensures);
         left-out = c .leave-out .ensures;
       },
       k .units-between .ensures .1,
@@ -104,7 +104,7 @@ settle-spec =
     add-none
     add-none-2
     mul-none
-    enter-requires
+    stand-requires
     sub-leave-out
     leave-out-requires
     mul-g

@@ -14,11 +14,11 @@ use Rattle.search.proofs.turns.run.Statement.{statement}
 use Rattle.search.proofs.turns.run.Tie as tie
 
 abbrev Inv-turns : tie.InvT-turns
-Inv-turns cells request g₀ parents₀ marks₀ champions₀ keys₀ margins₀ table₀ none goal expansions₀ tests₀ g parents marks champions keys margins table expansions tests = Finding cells request (wholeFrom cells request g₀ parents₀ marks₀) g parents marks champions keys margins table expansions tests
+Inv-turns cells request g₀ parents₀ marks₀ champions₀ keys₀ margins₀ table₀ none goal end expansions₀ tests₀ g parents marks champions keys margins table expansions tests = Finding cells request (wholeFrom cells request g₀ parents₀ marks₀) g parents marks champions keys margins table expansions tests
     × (length g ≡ length g₀) × (length parents ≡ length parents₀) × (length marks ≡ length marks₀)
 
 abbrev μ-turns : tie.MeasureT-turns
-μ-turns cells request g₀ parents₀ marks₀ champions₀ keys₀ margins₀ table₀ none goal expansions₀ tests₀ g parents marks champions keys margins table expansions tests = none - expansions
+μ-turns cells request g₀ parents₀ marks₀ champions₀ keys₀ margins₀ table₀ none goal end expansions₀ tests₀ g parents marks champions keys margins table expansions tests = none - expansions
 
 few : (s : tie.Start Inv-turns μ-turns) → sizeOf (s .args .request) ≤ mostVertices
 few s = vertices-most (s .args .request .width) (s .args .request .height) (s .pre .0 .sound .narrow) (s .pre .0 .sound .low)
@@ -42,34 +42,37 @@ cast-goal c =
     let A = s .pre .0 in
     omega (arith, c .number-of .ensures, number-below (q .width) (q .height) (q .gx) (q .gy) (A .goal .x-on) (A .goal .y-on), few s)
 
+add-end : tie.Need-add-end Inv-turns μ-turns
+add-end c = omega (arith, c .before .before .before .before .before .before .before .before .pre .0 .sound .low)
+
+add-end-2 : tie.Need-add-end-2 Inv-turns μ-turns
+add-end-2 c = omega (arith, c .before .before .before .before .before .before .before .before .pre .0 .sound .low)
+
 turns-holds : tie.Need-turns-holds Inv-turns μ-turns
-turns-holds c = let s = c .before .before .before .before .before .before .before in (finding-start (s .pre .0) (s .pre .1 .0) (s .pre .1 .1), refl, refl, refl)
+turns-holds c = let s = c .before .before .before .before .before .before .before .before in (finding-start (s .pre .0) (s .pre .1 .0) (s .pre .1 .1), refl, refl, refl)
 
 abbrev start : tie.At-turns Inv-turns μ-turns → tie.Start Inv-turns μ-turns
-start l = l .before .before .before .before .before .before .before .before
-
-add-pick : tie.Need-add-pick Inv-turns μ-turns
-add-pick c = omega (arith, start (c .before) .pre .0 .sound .low)
+start l = l .before .before .before .before .before .before .before .before .before
 
 pick-requires : tie.Need-pick-requires Inv-turns μ-turns
-pick-requires c κs = let l = c .before .before .before .before in finding-entries (start l .pre .0) (l .turns .inv .0)
+pick-requires c κs = let l = c .before .before .before in finding-entries (start l .pre .0) (l .turns .inv .0)
 
 -- a vertex is taken that is not the goal, and fewer are expanded than there are
-not-goal : (k : tie.Else2 Inv-turns μ-turns) → let q = start (k .before .before .before .before .before .before .before) .args .request in k .before .before .pick .result ≢ numberOf (q .width) (q .gx) (q .gy)
+not-goal : (k : tie.Else2 Inv-turns μ-turns) → let q = start (k .before .before .before .before .before .before) .args .request in k .before .before .pick .result .vertex ≢ numberOf (q .width) (q .gx) (q .gy)
 not-goal k e = k .if2 .left (e ∙ sym (k .before .before .before .before .before .before .before .before .number-of .ensures))
 
-more : (k : tie.Else2 Inv-turns μ-turns) → let l = k .before .before .before .before .before .before .before in l .turns .expansions + 1 ≤ sizeOf (start l .args .request)
+more : (k : tie.Else2 Inv-turns μ-turns) → let l = k .before .before .before .before .before .before in l .turns .expansions + 1 ≤ sizeOf (start l .args .request)
 more k =
-    let l = k .before .before .before .before .before .before .before in
+    let l = k .before .before .before .before .before .before in
     omega (arith, finding-room (start l .pre .0) (l .turns .inv .0) (k .before .before .pick .ensures) (k .before .if1 .left) (not-goal k))
 
 add-expansions : tie.Need-add-expansions Inv-turns μ-turns
-add-expansions c = let l = c .before .before .before .before .before .before .before in let s = start l in omega (arith, more c, few s)
+add-expansions c = let l = c .before .before .before .before .before .before in let s = start l in omega (arith, more c, few s)
 
 expand-requires : tie.Need-expand-requires Inv-turns μ-turns
 expand-requires c κs =
     let k = c .before .before .before .before .before .before .before in
-    let l = k .before .before .before .before .before .before .before in
+    let l = k .before .before .before .before .before .before in
     let A = start l .pre .0 in
     let W = l .turns .inv .0 in (
       A,
@@ -86,7 +89,7 @@ turns-again : tie.Need-turns-again Inv-turns μ-turns
 turns-again c =
     let o = c .before .before .before .before .before .before in
     let k = c .before .before .before .before .before .before .before .before .before .before .before .before .before .before in
-    let l = k .before .before .before .before .before .before .before in (
+    let l = k .before .before .before .before .before .before in (
       finding-next (start l .pre .0) (l .turns .inv .0) (k .before .before .pick .ensures) (k .before .if1 .left) (not-goal k) (o .expand .ensures .0) (o .expand .ensures .1),
       o .expand .kept .1 .1 .1 .1 .0 ∙ l .turns .inv .1,
       o .expand .kept .1 .1 .1 .1 .1 .0 ∙ l .turns .inv .2,
@@ -94,30 +97,30 @@ turns-again c =
     )
 
 same-length : tie.Need-same-length Inv-turns μ-turns
-same-length c = c .before .before .before .before .before .before .turns .inv .1
+same-length c = c .before .before .before .before .before .turns .inv .1
 
 same-length-2 : tie.Need-same-length-2 Inv-turns μ-turns
-same-length-2 c = c .before .before .before .before .before .before .turns .inv .2
+same-length-2 c = c .before .before .before .before .before .turns .inv .2
 
 same-length-3 : tie.Need-same-length-3 Inv-turns μ-turns
-same-length-3 c = c .before .before .before .before .before .before .turns .inv .3
+same-length-3 c = c .before .before .before .before .before .turns .inv .3
 
 returns : tie.Need-returns Inv-turns μ-turns
-returns c = let l = c .before .before .before .before .before .before in finding-none (start l .pre .0) (l .turns .inv .0) (c .before .pick .ensures) (c .if1 .taken)
+returns c = let l = c .before .before .before .before .before in finding-none (start l .pre .0) (l .turns .inv .0) (c .before .pick .ensures) (c .if1 .taken)
 
 same-length-4 : tie.Need-same-length-4 Inv-turns μ-turns
-same-length-4 c = c .before .before .before .before .before .before .before .turns .inv .1
+same-length-4 c = c .before .before .before .before .before .before .turns .inv .1
 
 same-length-5 : tie.Need-same-length-5 Inv-turns μ-turns
-same-length-5 c = c .before .before .before .before .before .before .before .turns .inv .2
+same-length-5 c = c .before .before .before .before .before .before .turns .inv .2
 
 same-length-6 : tie.Need-same-length-6 Inv-turns μ-turns
-same-length-6 c = c .before .before .before .before .before .before .before .turns .inv .3
+same-length-6 c = c .before .before .before .before .before .before .turns .inv .3
 
 returns-2 : tie.Need-returns-2 Inv-turns μ-turns
 returns-2 c =
-    let l = c .before .before .before .before .before .before .before in
-    finding-found (start l .pre .0) (l .turns .inv .0) (c .before .before .pick .ensures) (c .before .if1 .left) (c .if2 .taken ∙ l .before .number-of .ensures)
+    let l = c .before .before .before .before .before .before in
+    finding-found (start l .pre .0) (l .turns .inv .0) (c .before .before .pick .ensures) (c .before .if1 .left) (c .if2 .taken ∙ l .before .before .number-of .ensures)
 
 pub run-spec : {M : Type 1} → statement M
 run-spec =
@@ -130,8 +133,9 @@ run-spec =
     mul-none
     number-of-requires
     cast-goal
+    add-end
+    add-end-2
     turns-holds
-    add-pick
     pick-requires
     add-expansions
     expand-requires
