@@ -8,14 +8,16 @@ use Prim.Native.Nat.{ℕ, zero, suc, _+_, _-_, _*_, _/_, _≤_, _<_, min}
 use native.Mathlib.Nat.{zero-mul, suc-mul, mul-le-mul-right}
 use native.Mathlib.Omega.{arith}
 use native.Mathlib.Decide.{ℕ-discrete, decLt}
+use lib.Dec.{eqb}
 use lib.ListN.{length, set, length-set}
 use lib.Seq.{getD-set-same, getD-set-other}
 use borrow.Author.Tests.{eq-eqb, ne-eqb}
+use Rattle.laws.proofs.Tests.{or-left, or-right, false-of}
 use Rattle.board.specs.Limits.{side}
 use Rattle.reach.specs.Turns.{at}
 use Rattle.search.specs.Search.{Problem, Rank, sooner, rankOf, fOf, least}
-use Rattle.search.specs.Rows.{First, none, some, Lead, ranked, beats, noKey, block, rowCut, blockCut, Rising, Within, Champions, Entries, Picked, Entered, Renewed}
-use Rattle.search.proofs.Order.{sooner-irrefl, sooner-lower}
+use Rattle.search.specs.Rows.{First, none, some, Lead, ranked, beats, noKey, block, rowCut, blockCut, Rising, Within, Champions, Entries, Picked, Entered, Stood, kept, took, Renewed}
+use Rattle.search.proofs.Order.{sooner-trans, sooner-irrefl, sooner-total, sooner-lower}
 use Rattle.search.proofs.First.{first-on, first-unique, least-first, first-same, first-opened}
 
 -- ---- cuts
@@ -64,17 +66,26 @@ pub blocks-all : (wide height : ℕ)
     → (blockCut wide (height + 1) (side + 1) ≡ 0) × (blockCut wide (height + 1) (side + 1 + height / block + 1) ≡ (height + 1) * wide)
 blocks-all wide height = (ap (rowCut wide) (omega arith) ∙ zero-mul wide, ap (rowCut wide) (omega arith))
 
+-- a row is within its block
+pub row-in-block : (wide height y : ℕ) → y < height + 1
+    → (blockCut wide (height + 1) (side + 1 + y / block) ≤ rowCut wide y) × (rowCut wide (suc y) ≤ blockCut wide (height + 1) (suc (side + 1 + y / block)))
+row-in-block wide height y l =
+    let c = block-cuts wide (height + 1) (y / block) (omega arith) in
+    let rise = rows-rise wide (height + 1) ((height + 1) * wide) refl in (
+      omega (arith, c .0, cut-le rise (y / block * block) y (omega arith)),
+      omega (arith, c .1, cut-le rise (suc y) (min (y / block * block + block) (height + 1)) (omega arith)),
+    )
+
 -- a vertex of a row is one of the row's block
 pub block-within : (wide height : ℕ) {y w : ℕ} → Within (rowCut wide) 0 (height + 1) y w
     → Within (blockCut wide (height + 1)) (side + 1) (side + 1 + height / block + 1) (side + 1 + y / block) w
 block-within wide height {y} {w} I =
-    let c = block-cuts wide (height + 1) (y / block) (omega (arith, I .to-on)) in
-    let rise = rows-rise wide (height + 1) ((height + 1) * wide) refl in
+    let c = row-in-block wide height y (I .to-on) in
     record {
       from-on = omega arith;
       to-on = omega (arith, I .to-on);
-      low = omega (arith, c .0, cut-le rise (y / block * block) y (omega arith), I .low);
-      high = omega (arith, c .1, cut-le rise (suc y) (min (y / block * block + block) (height + 1)) (omega (arith, I .to-on)), I .high);
+      low = omega (arith, c .0, I .low);
+      high = omega (arith, c .1, I .high);
     }
 
 -- ---- what the champions say
@@ -135,6 +146,33 @@ module _ {p : Problem} {cut : ℕ → ℕ} {from to : ℕ} {g m champ key : List
     pub champions-pick : {r f : ℕ} → Picked (p .size) from to g champ key r f → cut from ≡ 0 → cut to ≡ p .size → r ≡ least p g m (p .size)
     champions-pick P a c =
         first-unique (rw (a, c) at (P .is p m cut refl R C .first)) (least-first p g m (p .size) (omega arith))
+
+-- what is not ahead of a range's lead is not ahead of a wider range's
+pub lead-behind : {p : Problem} {g m : List ℕ} {lo hi lo′ hi′ r f r′ f′ : ℕ} (a : Rank) → lo′ ≤ lo → hi ≤ hi′ → hi′ ≤ p .size → Lead p g m lo hi r f
+    → Lead p g m lo′ hi′ r′ f′ → beats (p .size) a (ranked f (at g r) r) ≡ false → beats (p .size) a (ranked f′ (at g r′) r′) ≡ false
+lead-behind {p} {g} {m} {lo} {hi} {lo′} {hi′} {r} {f} {r′} {f′} a l h s L W n = go (W .first)
+  where
+    held : r ≢ p .size
+    held e = true≢false (sym (or-left (sooner a (ranked f (at g r) r)) (eq-eqb r (p .size) e)) ∙ n)
+
+    behind : sooner a (rankOf p g r) ≡ false
+    behind = false-of _ (λ t. true≢false (sym (or-right (eqb r (p .size)) (rw (L .keyed held) t)) ∙ n))
+
+    on : (lo ≤ r) × (r < hi) × (at m r ≡ 1)
+    on = first-on (L .first) held
+
+    go : First p g m lo′ hi′ r′ → beats (p .size) a (ranked f′ (at g r′) r′) ≡ false
+    go (none e w) = absurd (w r (omega (arith, on .0)) (omega (arith, on .1)) (on .2))
+    go (some i j o w) =
+        rw (ne-eqb r′ (p .size) (omega arith), W .keyed (omega arith)) (false-of _ (λ t. last t (ℕ-discrete r r′)))
+      where
+        last : sooner a (rankOf p g r′) ≡ true → Dec (r ≡ r′) → ⊥
+        last t (yes e) = true≢false (sym (rw (← e) at t) ∙ behind)
+        last t (no d) = turn (sooner-total (rankOf p g r) (rankOf p g r′) d)
+          where
+            turn : (sooner (rankOf p g r) (rankOf p g r′) ≡ true) ⊎ (sooner (rankOf p g r′) (rankOf p g r) ≡ true) → ⊥
+            turn (inl x) = w r (omega (arith, on .0)) (omega (arith, on .1)) (on .2) x
+            turn (inr x) = true≢false (sym (sooner-trans a (rankOf p g r′) (rankOf p g r) t x) ∙ behind)
 
 -- ---- one entry changes
 
@@ -218,15 +256,6 @@ others-none {p} {cut} {from} {to} {i} R I g m champ key rc rk n e = record {
 pub renewed-elsewhere : {p : Problem} {cut cut′ : ℕ → ℕ} {from to i : ℕ} {g g′ m m′ champ key champ′ key′ : List ℕ} → (i < from) ⊎ (to ≤ i)
     → Champions p cut from to g m champ key → Renewed p cut′ i g′ m′ champ key champ′ key′ → Champions p cut from to g m champ′ key′
 renewed-elsewhere o C S = rw (S .champ-is, S .key-is) (elsewhere o C (S .vertex) (S .f))
-
--- a vertex stands against an entry: the other entries stay
-pub entered-other : {n i : ℕ} {a : Rank} {g champ key champ′ key′ : List ℕ} → Entered n g i a champ key champ′ key′ → (j : ℕ) → j ≢ i
-    → at champ′ j ≡ at champ j
-entered-other {n} {i} {a} {g} {champ} {key} E j d = rw (E .champ-is) (go (beats n a (ranked (at key i) (at g (at champ i)) (at champ i))))
-  where
-    go : (x : Bool) → at (cond x (set champ i (a .number)) champ) j ≡ at champ j
-    go true = getD-set-other champ i j (a .number) 0 d
-    go false = refl
 
 -- a vertex stands against an entry elsewhere
 pub entered-elsewhere : {p : Problem} {cut : ℕ → ℕ} {from to i : ℕ} {g g′ m champ key champ′ key′ : List ℕ} {n : ℕ} {a : Rank}
@@ -327,3 +356,15 @@ champions-look {p} {cut} {from} {to} {i} {w} {g} {m} {champ} {key} R C I c lg lm
         (cond (beats (p .size) new (ranked (at key i) (at g r) r)) (set key i (new .f)) key)
     go (yes e) = rw (eq-eqb r (p .size) e) (won (rw (eq-eqb r (p .size) e) at mine))
     go (no o) = rw (ne-eqb r (p .size) o, old .keyed o) (next (sooner new (rankOf p g r)) refl o (rw (ne-eqb r (p .size) o) at mine))
+
+-- a vertex that has stood has stood against both champions, its row's and then its block's
+pub stood-both : {p : Problem} {cut : ℕ → ℕ} {to y lo hi : ℕ} {g m champ key champ′ key′ : List ℕ} {a : Rank} → Rising (p .size) cut to
+    → side + 1 + y / block < to → cut (side + 1 + y / block) ≤ lo → hi ≤ cut (suc (side + 1 + y / block)) → Lead p g m lo hi (at champ y) (at key y)
+    → Champions p cut (side + 1) to g m champ key → Stood (p .size) g y a champ key champ′ key′
+    → (champ″ : List ℕ) × (key″ : List ℕ) × Entered (p .size) g y a champ key champ″ key″ × Entered (p .size) g (side + 1 + y / block) a champ″ key″ champ′ key′
+stood-both {y = y} {champ = champ} {key = key} {a = a} R on l h L C (kept n e f) =
+    let i = side + 1 + y / block in
+    let b = lead-behind a l h (cut-on R i on) L (C .lead i (omega arith) on) n in
+    (champ, key, record { champ-is = rw n refl; key-is = rw n refl }, record { champ-is = rw b e; key-is = rw b f })
+stood-both {y = y} {champ = champ} {key = key} {a = a} R on l h L C (took n E) =
+    (set champ y (a .number), set key y (a .f), record { champ-is = rw n refl; key-is = rw n refl }, E)

@@ -2,17 +2,19 @@
 use mathlib.Core.Path.{_≡_}
 use mathlib.Core.Logic.{inl, inr}
 use mathlib.Core.List.{List}
-use Prim.Native.Nat.{ℕ, _+_, _-_, _≤_, _<_}
+use Prim.Native.Nat.{ℕ, _+_, _-_, _/_, _≤_, _<_}
 use native.Mathlib.Omega.{arith}
 use lib.ListN.{length}
+use Rattle.board.specs.Limits.{side}
 use Rattle.reach.specs.Turns.{at}
 use Rattle.search.specs.declared.Request.{Request}
 use Rattle.search.specs.declared.Spot.{Spot}
+use Rattle.search.specs.Search.{Rank}
 use Rattle.search.specs.Request.{problem, boardOf, asked, sizeOf, Asked, Placed}
-use Rattle.search.specs.Rows.{ranked, rowCut, Within, Stood}
+use Rattle.search.specs.Rows.{ranked, block, rowCut, blockCut, Within, Entered}
 use Rattle.search.specs.Lengths.{Known}
 use Rattle.search.specs.Round.{Arrays, Settled}
-use Rattle.search.proofs.Rows.{block-within, entered-elsewhere, champions-look}
+use Rattle.search.proofs.Rows.{row-in-block, block-within, entered-elsewhere, champions-look, stood-both}
 use Rattle.search.proofs.Margin.{margins-open}
 use Rattle.search.proofs.Places.{rising-rows, rising-blocks, len-goal, placed-of-row}
 
@@ -26,12 +28,11 @@ settled-arrays {cells} {q} {w} {own = own} {g = g} {champ = champ} {key = key} {
   rows =
       rw (S .g-is, S .mark-is)
       (entered-elsewhere (inr (omega (arith, P .on .y-on, A .sound .low)))
-      (champions-look (rising-rows cells q) (R .rows) in-row own lg lm d (T .in-row)) (T .in-block));
+      (champions-look (rising-rows cells q) (R .rows) in-row own lg lm d (both .2)) (both .3));
   blocks =
       rw (S .g-is, S .mark-is)
-      (champions-look (rising-blocks cells q)
-      (entered-elsewhere (inl (omega (arith, P .on .y-on, A .sound .low))) (R .blocks) (T .in-row)) (block-within (q .width + 1) (q .height) in-row) own lg lm d
-      (T .in-block));
+      (champions-look (rising-blocks cells q) (entered-elsewhere (inl (omega (arith, P .on .y-on, A .sound .low))) (R .blocks) (both .2)) in-block own lg lm d
+      (both .3));
   margined =
       rw (S .mark-is, P .numbered)
       (margins-open (R .margined) (w .y) (w .x) (q .width - w .x) (omega (arith, P .on .y-on)) (omega (arith, P .on .x-on)) (omega (arith, P .on .x-on))
@@ -39,8 +40,18 @@ settled-arrays {cells} {q} {w} {own = own} {g = g} {champ = champ} {key = key} {
   known = K;
 }
   where
-    T : Stood (sizeOf q) g (w .y) (ranked (own + (asked cells q) .len (w .number) ((asked cells q) .goal)) own (w .number)) champ key champ′ key′
-    T = rw (len-goal cells q A P) (S .stood)
+    rank : Rank
+    rank = ranked (own + (asked cells q) .len (w .number) ((asked cells q) .goal)) own (w .number)
 
     in-row : Within (rowCut (q .width + 1)) 0 (q .height + 1) (w .y) (w .number)
     in-row = placed-of-row P
+
+    in-block : Within (blockCut (q .width + 1) (q .height + 1)) (side + 1) (side + 1 + q .height / block + 1) (side + 1 + w .y / block) (w .number)
+    in-block = block-within (q .width + 1) (q .height) in-row
+
+    both : (champ″ : List ℕ) × (key″ : List ℕ) × Entered (sizeOf q) g (w .y) rank champ key champ″ key″
+        × Entered (sizeOf q) g (side + 1 + w .y / block) rank champ″ key″ champ′ key′
+    both =
+        let c = row-in-block (q .width + 1) (q .height) (w .y) (in-row .to-on) in
+        stood-both (rising-blocks cells q) (in-block .to-on) (c .0) (c .1) (R .rows .lead (w .y) (omega arith) (in-row .to-on)) (R .blocks)
+        (rw (len-goal cells q A P) (S .stood))

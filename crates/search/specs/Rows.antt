@@ -2,7 +2,7 @@
 -- laws say that it picks what `least` picks.
 use mathlib.Core.Path.{_≡_}
 use mathlib.Core.Logic.{_≢_}
-use mathlib.Core.Bool.{Bool, true, _||_, cond}
+use mathlib.Core.Bool.{Bool, true, false, _||_, cond}
 use mathlib.Core.List.{List}
 use Prim.Native.Nat.{ℕ, suc, _+_, _-_, _*_, _/_, _^_, _≤_, _<_, min}
 use lib.Dec.{eqb}
@@ -93,12 +93,12 @@ pub record Entered (n : ℕ) (g : List ℕ) (i : ℕ) (a : Rank) (champ key cham
   pub champ-is : champ′ ≡ cond (beats n a (ranked (at key i) (at g (at champ i)) (at champ i))) (set champ i (a .number)) champ
   pub key-is : key′ ≡ cond (beats n a (ranked (at key i) (at g (at champ i)) (at champ i))) (set key i (a .f)) key
 
--- a vertex of rank a, in row y, has stood against the champion of its row and then against that of its block
-pub record Stood (n : ℕ) (g : List ℕ) (y : ℕ) (a : Rank) (champ key champ′ key′ : List ℕ) : Type 0 where
-  pub champ-between : List ℕ
-  pub key-between : List ℕ
-  pub in-row : Entered n g y a champ key champ-between key-between
-  pub in-block : Entered n g (side + 1 + y / block) a champ-between key-between champ′ key′
+-- a vertex of rank a, in row y, has stood against its row's champion: that one keeps its place, or the vertex took it and has stood against
+-- its block's champion too
+pub data Stood (n : ℕ) (g : List ℕ) (y : ℕ) (a : Rank) (champ key champ′ key′ : List ℕ) : Type 0 where
+  kept : beats n a (ranked (at key y) (at g (at champ y)) (at champ y)) ≡ false → champ′ ≡ champ → key′ ≡ key → Stood n g y a champ key champ′ key′
+  took : beats n a (ranked (at key y) (at g (at champ y)) (at champ y)) ≡ true
+      → Entered n g (side + 1 + y / block) a (set champ y (a .number)) (set key y (a .f)) champ′ key′ → Stood n g y a champ key champ′ key′
 
 -- entry i after its range has been looked through
 pub record Renewed (p : Problem) (cut : ℕ → ℕ) (i : ℕ) (g m champ key champ′ key′ : List ℕ) : Type 0 where

@@ -179,7 +179,8 @@ fn enter(
     }
 }
 
-// The vertex v of the row y, with this f and g, stands against the champions of its row and its block.
+// The vertex v of the row y, with this f and g, stands against its row's champion, and where it is ahead against its block's: a
+// vertex that is not ahead in its row is not ahead in its block.
 pub fn stand(
     none: usize,
     y: usize,
@@ -194,8 +195,12 @@ pub fn stand(
     requires { ⌜ (at (now champions) y ≤ none) × (at (now champions) (side + 1 + y / block) ≤ none) ⌝ }
     ensures { λ r. ⌜ Stood none (now (g .entry)) y (ranked f own v) (now (champions .entry)) (now (keys .entry)) (now (champions .exit)) (now (keys .exit)) ⌝ }
 {
-    enter(none, y, v, own, f, g, champions, keys);
-    enter(none, LINE + y / BLOCK, v, own, f, g, champions, keys);
+    let holder = champions[y] as usize;
+    if ahead(none, f, own, v, keys[y], holder, g) {
+        champions[y] = v as Vertex;
+        keys[y] = f;
+        enter(none, LINE + y / BLOCK, v, own, f, g, champions, keys);
+    }
 }
 
 // The lesser of two.
