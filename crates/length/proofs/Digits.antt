@@ -1,10 +1,11 @@
 -- The root, two binary digits a turn: what a turn does to the remainder and the root so far. Assumes nothing.
 use mathlib.Core.Path.{_≡_, refl, sym, ap, ap₂, _∙_}
-use Prim.Native.Nat.{ℕ, _+_, _*_, _-_, _/_, _%_, _≤_, _<_, _^_}
-use native.Mathlib.Nat.{pow-suc, mul-assoc, add-mul, mul-right-comm, mod-lt, le-of-lt, le-of-eq}
+use Prim.Native.Nat.{ℕ, zero, suc, _+_, _*_, _-_, _/_, _%_, _≤_, _<_, _^_}
+use native.Mathlib.Nat.{pow-suc, mul-assoc, add-mul, mul-right-comm, mul-lt-mul-of-pos-right, mod-lt, mod-eq-of-lt, lt-of-lt-of-le}
 use native.Mathlib.Numerals.{add-one, add-one-le}
 use native.Mathlib.Omega.{arith}
-use lib.Pow.{pow-mono}
+use lib.Pow.{pow-pos, pow-mono, pow-add}
+use lib.Count.{leadingZeros, leading-top}
 use lib.Dec.{lit<}
 use Rattle.length.specs.Root.{Bounds}
 use Rattle.length.proofs.Root.{even, odd, next}
@@ -24,8 +25,35 @@ pub record Digits (n rest remainder root k : ℕ) : Type 0 where
   pub short : root + 1 ≤ 2 ^ k
   pub turns : k ≤ 32
 
-pub digits-start : (n : ℕ) → n < word → Digits n n 0 0 0
-digits-start n h = record { whole = omega arith; fits = h; small = omega arith; short = omega arith; turns = omega arith }
+-- ---- the start: leading pairs of zeros give no digit of the root, so the turns that would take them are skipped
+
+pairs-as-bits : (k : ℕ) → 2 ^ (2 * k) ≡ 4 ^ k
+pairs-as-bits zero = refl
+pairs-as-bits (suc k) = let e : 2 * suc k ≡ 2 * k + 2 = omega arith in rw (e, pow-add 2 (2 * k) 2, pairs-as-bits k, pow-suc 4 k)
+
+module _ (n : ℕ) (p : 0 < n) (h : n < word) where
+  abbrev skip : ℕ
+  skip = leadingZeros 64 n / 2
+
+  pub skip-short : 2 * skip < 64
+  skip-short = omega (arith, leading-top 64 n p h .1)
+
+  -- what is left is moved to the top of the word, and nothing is lost
+  skip-fits : n * 2 ^ (2 * skip) < word
+  skip-fits =
+      let t = leading-top 64 n p h in
+      lt-of-lt-of-le (mul-lt-mul-of-pos-right (t .3) (pow-pos (2 * skip)))
+      (rw (← (pow-add 2 (suc (t .0)) (2 * skip))) (pow-mono {j = 64} (omega (arith, t .1))))
+
+  pub digits-start : Digits n (n * 2 ^ (2 * skip) % word) 0 0 skip
+  digits-start =
+      record {
+        whole = rw (mod-eq-of-lt skip-fits, pairs-as-bits skip) (omega arith);
+        fits = mod-lt (n * 2 ^ (2 * skip)) (lit< tt);
+        small = omega arith;
+        short = pow-pos skip;
+        turns = omega (arith, skip-short);
+      }
 
 pub digits-end : {n rest remainder root k : ℕ} → Digits n rest remainder root k → 32 ≤ k → Bounds n root
 digits-end {n} {rest} {remainder} {root} {k} d h =

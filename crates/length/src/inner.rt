@@ -11,10 +11,15 @@ use crate::Length;
 pub fn root(n: u64) -> u64
     ensures { λ r. ⌜ Bounds n r ⌝ }
 {
-    let mut rest = n;
+    if n == 0 {
+        return 0;
+    }
+    // A leading pair of zeros gives no digit of the root.
+    let skip = u64::leading_zeros(n) / 2;
+    let mut rest = n << (2 * skip);
     let mut remainder = 0u64;
     let mut root = 0u64;
-    for turn in 0..32u64 {
+    for turn in skip..32 {
         remainder = (remainder << 2) + (rest >> 62);
         rest = rest << 2;
         let trial = (root << 2) + 1;
@@ -32,6 +37,13 @@ pub fn units_of(x: u64, y: u64) -> u64
     requires { ⌜ (x ≤ side) × (y ≤ side) ⌝ }
     ensures { λ r. ⌜ r ≡ unitsOf (x * x + y * y) ⌝ }
 {
+    // Along an axis nothing is rounded.
+    if x == 0 {
+        return y * Length::UNITS_PER_CELL;
+    }
+    if y == 0 {
+        return x * Length::UNITS_PER_CELL;
+    }
     root((x * x + y * y) * (Length::UNITS_PER_CELL * Length::UNITS_PER_CELL))
 }
 
