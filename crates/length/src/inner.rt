@@ -32,19 +32,20 @@ pub fn root(n: u64) -> u64
     root
 }
 
+// The units of a leg, by the sum of its differences' squares.
+pub fn units_of_square(s: u64) -> u64
+    requires { ⌜ s ≤ 2 * (side * side) ⌝ }
+    ensures { λ r. ⌜ r ≡ unitsOf s ⌝ }
+{
+    root(s * (Length::UNITS_PER_CELL * Length::UNITS_PER_CELL))
+}
+
 // The units of a leg that is x columns wide and y rows high.
 pub fn units_of(x: u64, y: u64) -> u64
     requires { ⌜ (x ≤ side) × (y ≤ side) ⌝ }
     ensures { λ r. ⌜ r ≡ unitsOf (x * x + y * y) ⌝ }
 {
-    // Along an axis nothing is rounded.
-    if x == 0 {
-        return y * Length::UNITS_PER_CELL;
-    }
-    if y == 0 {
-        return x * Length::UNITS_PER_CELL;
-    }
-    root((x * x + y * y) * (Length::UNITS_PER_CELL * Length::UNITS_PER_CELL))
+    units_of_square(x * x + y * y)
 }
 
 // Units in cells, where the cast loses nothing.

@@ -15,6 +15,7 @@ pub mod Rows
 pub mod Scans
 pub mod Reading
 pub mod Rounds
+pub mod Squares
 pub mod Table
 pub mod Margin
 pub mod Sizes

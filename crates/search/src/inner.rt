@@ -10,7 +10,7 @@ ghost use Rattle.search.specs.Back.{Traced};
 ghost use Rattle.search.specs.Request.{problem};
 use crate::Outcome;
 use crate::Request;
-use crate::lengths::PLACES;
+use crate::lengths::SQUARES;
 use crate::lengths::units_between;
 use crate::open::BLOCK;
 use crate::open::ENTRIES;
@@ -47,7 +47,7 @@ pub fn find(
     let mut champions = [none as Vertex; ENTRIES];
     let mut keys = [NO_KEY; ENTRIES];
     let mut margins = [width as u32 + 1; MARGINS];
-    let mut table = [0u32; PLACES];
+    let mut table = [0u32; SQUARES];
     let f = units_between(sx, sy, gx, gy, &mut table);
     champions[sy] = start;
     keys[sy] = f;

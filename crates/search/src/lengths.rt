@@ -1,58 +1,50 @@
-// The lengths of legs, from a table that is filled on demand: a root is dear, and the same differences come again and again.
+// The lengths of legs, from a table that is filled on demand: a root is dear, and the same squares come again and again.
 ghost use mathlib.Core.Path.{_≡_};
-ghost use Prim.Native.Nat.{_+_, _-_, _*_, _≤_, _<_};
+ghost use Prim.Native.Nat.{_+_, _*_, _≤_};
+ghost use lib.IntN.{natAbs};
 ghost use Rattle.board.specs.Limits.{side};
 ghost use Rattle.length.specs.Legs.{step};
 ghost use Rattle.length.specs.Units.{unitsOf, units};
-ghost use Rattle.search.specs.Lengths.{known, place, Known};
-use length::inner::units_of;
+ghost use Rattle.search.specs.Lengths.{Known};
+use length::inner::units_of_square;
 
-// Differences below this have a place in the table; it does not grow with the board.
-pub const KNOWN: usize = 64;
+// Legs whose differences' squares sum up to less have a place in the table; it does not grow with the board.
+pub const SQUARES: usize = 8192;
 
-pub const PLACES: usize = KNOWN * KNOWN;
-
-// How far apart two coordinates are.
-fn apart(a: usize, b: usize) -> usize
-    ensures { λ r. ⌜ r ≡ (b - a) + (a - b) ⌝ }
+// The square of the difference from a to b.
+fn squared(a: usize, b: usize) -> usize
+    requires { ⌜ (a ≤ side) × (b ≤ side) ⌝ }
+    ensures { λ r. ⌜ r ≡ natAbs (step a b) * natAbs (step a b) ⌝ }
 {
-    if a < b { b - a } else { a - b }
+    let d = b as i64 - a as i64;
+    (d * d) as usize
 }
 
-// The place in the table of a leg that is x columns wide and y rows high. Turned by a right angle it is as long: it has the same place.
-fn place_of(x: usize, y: usize) -> usize
-    requires { ⌜ (x < known) × (y < known) ⌝ }
-    ensures { λ r. ⌜ r ≡ place x y ⌝ }
-{
-    if x < y { y * KNOWN + x } else { x * KNOWN + y }
-}
-
-// The units of a leg that is x columns wide and y rows high.
-fn units_by(x: usize, y: usize, table: &mut [u32; PLACES]) -> u64
-    requires { ⌜ (x ≤ side) × (y ≤ side) ⌝ }
+// The units of a leg, by the sum of its differences' squares.
+fn units_by(s: usize, table: &mut [u32; SQUARES]) -> u64
+    requires { ⌜ s ≤ 2 * (side * side) ⌝ }
     requires { ⌜ Known (now table) ⌝ }
-    ensures { λ r. ⌜ r ≡ unitsOf (x * x + y * y) ⌝ }
+    ensures { λ r. ⌜ r ≡ unitsOf s ⌝ }
     ensures { λ r. ⌜ Known (now (table .exit)) ⌝ }
 {
-    if (KNOWN <= x) | (KNOWN <= y) {
-        return units_of(x as u64, y as u64);
+    if SQUARES <= s {
+        return units_of_square(s as u64);
     }
-    let at = place_of(x, y);
-    let entry = table[at];
+    let entry = table[s];
     if entry != 0 {
         return entry as u64;
     }
-    let units = units_of(x as u64, y as u64);
-    table[at] = units as u32;
+    let units = units_of_square(s as u64);
+    table[s] = units as u32;
     units
 }
 
 // The units of the leg from (ax, ay) to (bx, by).
-pub fn units_between(ax: usize, ay: usize, bx: usize, by: usize, table: &mut [u32; PLACES]) -> u64
+pub fn units_between(ax: usize, ay: usize, bx: usize, by: usize, table: &mut [u32; SQUARES]) -> u64
     requires { ⌜ (ax ≤ side) × (ay ≤ side) × (bx ≤ side) × (by ≤ side) ⌝ }
     requires { ⌜ Known (now table) ⌝ }
     ensures { λ r. ⌜ r ≡ units (step ax bx) (step ay by) ⌝ }
     ensures { λ r. ⌜ Known (now (table .exit)) ⌝ }
 {
-    units_by(apart(ax, bx), apart(ay, by), table)
+    units_by(squared(ax, bx) + squared(ay, by), table)
 }

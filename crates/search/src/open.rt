@@ -11,7 +11,7 @@ ghost use Rattle.search.specs.Search.{Problem};
 ghost use Rattle.search.specs.Rows.{ranked, beats, block, entries, rowCut, blockCut, Champions, Entries, Picked, Entered, Stood, Renewed, Keyed, Margins, LeftOut};
 ghost use Rattle.search.specs.Lengths.{Known};
 use crate::Request;
-use crate::lengths::PLACES;
+use crate::lengths::SQUARES;
 use crate::lengths::units_between;
 use board::LINE;
 use board::SIDE;
@@ -125,7 +125,7 @@ pub fn rescan(
     champions: &mut [Vertex; ENTRIES],
     keys: &mut [u64; ENTRIES],
     margins: &[u32; MARGINS],
-    table: &mut [u32; PLACES],
+    table: &mut [u32; SQUARES],
 )
     requires { ⌜ Fitting request y ⌝ }
     requires { ⌜ Margins (request .width + 1) (request .height + 1) (now marks) (now margins) ⌝ }

@@ -9,7 +9,7 @@ ghost use Rattle.search.specs.Lengths.{Known};
 ghost use Rattle.search.specs.Round.{Taken, Beside, Arrays, Settling, Settled, Looked, Rounded};
 use crate::Request;
 use crate::Spot;
-use crate::lengths::PLACES;
+use crate::lengths::SQUARES;
 use crate::lengths::units_between;
 use crate::open::ENTRIES;
 use crate::open::MARGINS;
@@ -52,7 +52,7 @@ fn settle(
     champions: &mut [Vertex; ENTRIES],
     keys: &mut [u64; ENTRIES],
     margins: &mut [u32; MARGINS],
-    table: &mut [u32; PLACES],
+    table: &mut [u32; SQUARES],
 )
     requires { ⌜ Settling request w parent own (now g) (now parents) (now marks) (now champions) (now margins) ⌝ }
     requires { ⌜ Known (now table) ⌝ }
@@ -84,7 +84,7 @@ fn look(
     champions: &mut [Vertex; ENTRIES],
     keys: &mut [u64; ENTRIES],
     margins: &mut [u32; MARGINS],
-    table: &mut [u32; PLACES],
+    table: &mut [u32; SQUARES],
 ) -> u64
     requires { ⌜ Taken (now cells) request u parent (now g) (now parents) (now marks) ⌝ }
     requires { ⌜ Beside (now cells) request u w ⌝ }
@@ -151,7 +151,7 @@ pub fn round(
     champions: &mut [Vertex; ENTRIES],
     keys: &mut [u64; ENTRIES],
     margins: &mut [u32; MARGINS],
-    table: &mut [u32; PLACES],
+    table: &mut [u32; SQUARES],
 ) -> u64
     requires { ⌜ Taken (now cells) request u parent (now g) (now parents) (now marks) ⌝ }
     requires { ⌜ tests < 2 ^ 62 ⌝ }

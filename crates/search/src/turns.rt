@@ -12,7 +12,7 @@ ghost use Rattle.search.specs.Round.{state, Taking, Rounded, Arrays};
 use crate::Outcome;
 use crate::Request;
 use crate::Spot;
-use crate::lengths::PLACES;
+use crate::lengths::SQUARES;
 use crate::open::BLOCK;
 use crate::open::ENTRIES;
 use crate::open::MARGINS;
@@ -68,7 +68,7 @@ fn expand(
     champions: &mut [Vertex; ENTRIES],
     keys: &mut [u64; ENTRIES],
     margins: &mut [u32; MARGINS],
-    table: &mut [u32; PLACES],
+    table: &mut [u32; SQUARES],
 ) -> u64
     requires { ⌜ Asked (now cells) request ⌝ }
     requires { ⌜ Taking (now cells) request v (now g) (now parents) (now marks) ⌝ }
@@ -109,7 +109,7 @@ pub fn run(
     champions: &mut [Vertex; ENTRIES],
     keys: &mut [u64; ENTRIES],
     margins: &mut [u32; MARGINS],
-    table: &mut [u32; PLACES],
+    table: &mut [u32; SQUARES],
 ) -> Outcome
     requires { ⌜ Asked (now cells) request ⌝ }
     requires { ⌜ Begins (asked (now cells) request) (state (now g) (now parents) (now marks) 0 0) ⌝ }
