@@ -1,12 +1,17 @@
--- The first bad byte of a board's cells, from a place on. Assumes nothing.
-use mathlib.Core.Path.{_≡_, refl, ap}
+-- The first bad byte of a board's cells, from a place on, and whether there is one. Assumes nothing.
+use mathlib.Core.Path.{_≡_, refl, sym, _∙_}
+use mathlib.Core.Logic.{⊎-elim}
+use mathlib.Core.Bool.{Bool, true, false, _||_}
 use mathlib.Core.List.{List, [], _∷_}
 use Prim.Native.Nat.{ℕ, suc, _+_, _≤_, _<_}
+use native.Mathlib.Nat.{zero-lt-suc}
 use native.Mathlib.Numerals.{add-one}
 use native.Mathlib.Omega.{arith}
+use lib.Dec.{ltb}
 use lib.ListN.{length, getD, drop}
 use lib.Seq.{drop-cons, drop-length}
-use borrow.Author.Tests.{le-leb, lt-leb}
+use borrow.Author.Tests.{le-leb, lt-leb, le-ltb, lt-ltb}
+use Rattle.laws.proofs.Tests.{order, or-false}
 use Rattle.board.specs.Paper.{firstBad}
 
 module _ (l : List ℕ) (i : ℕ) where
@@ -21,3 +26,34 @@ module _ (l : List ℕ) (i : ℕ) where
   pub bad-never : i ≡ length l → firstBad (drop i l) ≡ 0
   unfolding firstBad
   bad-never e = rw (e, drop-length l)
+
+pub bad-le : (l : List ℕ) → firstBad l ≤ length l
+unfolding firstBad
+bad-le [] = omega arith
+bad-le (x ∷ l) =
+    ⊎-elim (λ (h : 1 < x). rw (lt-leb x 1 h) (omega arith)) (λ (g : x ≤ 1). rw (le-leb x 1 g) (omega (arith, bad-le l))) (order 1 x)
+
+-- ---- whether some byte is bad
+
+abbrev pub hasBad : List ℕ → Bool
+hasBad l = ltb (firstBad l) (length l)
+
+ltb-suc : (a b : ℕ) → ltb (suc a) (suc b) ≡ ltb a b
+ltb-suc a b =
+    ⊎-elim (λ (h : a < b). lt-ltb (suc a) (suc b) (omega arith) ∙ sym (lt-ltb a b h))
+    (λ (g : b ≤ a). le-ltb (suc a) (suc b) (omega arith) ∙ sym (le-ltb a b g)) (order a b)
+
+one-more : (x : ℕ) (l : List ℕ) → hasBad (x ∷ l) ≡ (ltb 1 x || hasBad l)
+unfolding firstBad
+one-more x l =
+    ⊎-elim (λ (h : 1 < x). rw (lt-leb x 1 h, lt-ltb 1 x h) (lt-ltb 0 (length (x ∷ l)) (zero-lt-suc (length l))))
+    (λ (g : x ≤ 1). rw (le-leb x 1 g, le-ltb 1 x g) (ltb-suc (firstBad l) (length l))) (order 1 x)
+
+-- so far or in what is left: a turn moves a byte from there to here
+pub bad-so-far : (bad : Bool) (l : List ℕ) (i : ℕ) → i < length l → ((bad || ltb 1 (getD l i 0)) || hasBad (drop (i + 1) l)) ≡ (bad || hasBad (drop i l))
+bad-so-far true l i h = refl
+bad-so-far false l i h = rw (drop-cons l i 0 h, one-more, add-one i)
+
+pub bad-at-end : (bad : Bool) (l : List ℕ) (i : ℕ) → i ≡ length l → (bad || hasBad (drop i l)) ≡ bad
+unfolding firstBad
+bad-at-end bad l i e = rw (e, drop-length l) (or-false bad)

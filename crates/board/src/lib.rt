@@ -1,6 +1,7 @@
 // The board: its largest side, its vertices' numbers, and the checks that every call makes first.
 ghost use mathlib.Core.Path.{_≡_};
 ghost use Prim.Native.Nat.{_≤_, _<_};
+ghost use lib.Dec.{ltb};
 ghost use lib.ListN.{length};
 ghost use Rattle.board.specs.Limits.{side, mostVertices};
 ghost use Rattle.board.specs.Board.{Board, board, vertices, number};
@@ -45,10 +46,24 @@ pub fn most_vertices() -> usize
     MOST
 }
 
+// Whether some byte is neither 0 nor 1: with no way out of the loop, so that the compiler takes many bytes at once.
+fn has_bad(cells: &[u8]) -> bool
+    ensures { λ r. ⌜ r ≡ ltb (firstBad (now (cells .entry))) (length (now (cells .entry))) ⌝ }
+{
+    let mut bad = false;
+    for i in 0..cells.len() {
+        bad = bad | (1 < cells[i]);
+    }
+    bad
+}
+
 // The index of the first byte that is neither 0 nor 1, or the length.
 fn first_bad(cells: &[u8]) -> usize
     ensures { λ r. ⌜ r ≡ firstBad (now (cells .entry)) ⌝ }
 {
+    if !has_bad(cells) {
+        return cells.len();
+    }
     let mut i = 0;
     while i < cells.len() {
         if 1 < cells[i] {

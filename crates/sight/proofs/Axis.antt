@@ -1,6 +1,6 @@
 -- One axis of a leg: its vertices and cells in steps from a towards b. Assumes nothing.
 use Prim.Native.Nat.{ℕ, _+_, _*_, _-_, _≤_, _<_, min, max}
-use mathlib.Core.Path.{_≡_}
+use mathlib.Core.Path.{_≡_, ap}
 use mathlib.Core.Logic.{⊎-elim}
 use mathlib.Core.Bool.{cond}
 use lib.Dec.{ltb}
@@ -30,9 +30,8 @@ module _ (a b s : ℕ) where
   vertex-start e =
       ⊎-elim (λ (l : a < b). omega (arith, vertex-up l)) (λ (g : b ≤ a). omega (arith, vertex-down g)) (order a b)
 
-  -- no vertex of the leg lies beyond its ends
-  pub vertex-on : (size : ℕ) → s ≤ far a b → a ≤ size → b ≤ size → vertexAt a b s ≤ size
-  vertex-on size h ha hb =
+  vertex-end : s ≡ far a b → vertexAt a b s ≡ b
+  vertex-end e =
       ⊎-elim (λ (l : a < b). omega (arith, vertex-up l)) (λ (g : b ≤ a). omega (arith, vertex-down g)) (order a b)
 
 -- the coordinate p lies between the ends
@@ -68,6 +67,12 @@ module _ (a b s : ℕ) (hs : s < far a b) where
   axis-spans =
       ⊎-elim (λ (l : a < b). omega (arith, cell-up a b s l)) (λ (g : b ≤ a). omega (arith, cell-down a b s g)) (order a b)
 
+  -- it lies s cells from the first one
+  pub axis-far : far (cellAt a b 0) (cellAt a b s) ≡ s
+  axis-far =
+      ⊎-elim (λ (l : a < b). omega (arith, cell-up a b 0 l, cell-up a b s l))
+      (λ (g : b ≤ a). omega (arith, cell-down a b 0 g, cell-down a b s g)) (order a b)
+
   -- it is on the board if both ends are
   pub axis-on : (size : ℕ) → a ≤ size → b ≤ size → cellAt a b s < size
   axis-on size ha hb = omega (arith, axis-spans)
@@ -98,7 +103,7 @@ module _ (a b stride : ℕ) where
   forward-most = ⊎-elim (λ (l : a < b). rw (lt-ltb a b l) (omega arith)) (λ (g : b ≤ a). rw (le-ltb a b g) (omega arith)) (order a b)
 
   -- from a vertex to the next one
-  pub vertex-step : (s : ℕ) → s < far a b → vertexAt a b (s + 1) * stride + forward b a stride ≡ vertexAt a b s * stride + forward a b stride
+  vertex-step : (s : ℕ) → s < far a b → vertexAt a b (s + 1) * stride + forward b a stride ≡ vertexAt a b s * stride + forward a b stride
   vertex-step s h =
       ⊎-elim
       (λ (l : a < b). rw (vertex-up a b s l, vertex-up a b (s + 1) l, forward-up l .0, forward-up l .1) (omega arith))
@@ -114,3 +119,15 @@ module _ (a b stride : ℕ) where
       (λ (g : b ≤ a).
       let z : a - s ≡ (a - (s + 1)) + 1 = omega arith in
       rw (vertex-down a b s g, cell-down a b s g, forward-down (omega arith) .1, z) (omega arith)) (order a b)
+
+  -- and from that cell to the next one
+  pub cell-next : (s : ℕ) → s + 1 < far a b → cellAt a b (s + 1) * stride + forward b a stride ≡ cellAt a b s * stride + forward a b stride
+  cell-next s h =
+      let l : s < far a b = omega arith in
+      omega (arith, vertex-step s l, cell-step s l, cell-step (s + 1) h)
+
+  -- and from the last one to the end
+  pub cell-end : (s : ℕ) → s + 1 ≡ far a b → cellAt a b s * stride + forward a b stride ≡ b * stride
+  cell-end s e =
+      let l : s < far a b = omega arith in
+      omega (arith, vertex-step s l, cell-step s l, ap (λ (z : ℕ). z * stride) (vertex-end a b (s + 1) e))

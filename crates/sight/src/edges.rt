@@ -3,7 +3,8 @@ ghost use mathlib.Core.Path.{_≡_};
 ghost use mathlib.Core.Bool.{cond};
 ghost use Prim.Native.Nat.{_≤_};
 ghost use Rattle.board.specs.Board.{Sound, board};
-ghost use Rattle.sight.specs.Stops.{edgeFrom, edgesStop};
+ghost use Rattle.sight.specs.Leg.{far};
+ghost use Rattle.sight.specs.Stops.{edgeFrom, openEdges, stopAfter};
 use crate::Stop;
 use crate::leg;
 use crate::walls::is_walled;
@@ -19,8 +20,24 @@ fn edge(level: bool, c: usize, p: usize, q: usize) -> Stop
     }
 }
 
-// Unit edge by unit edge from p to q, until one has blocked cells on both sides.
-pub fn edges_stop(
+// What stops the leg after this many open edges: the next edge, or nothing where they are all.
+pub fn stop_after(level: bool, c: usize, p: usize, q: usize, steps: usize) -> Stop
+    requires { ⌜ steps ≤ far p q ⌝ }
+    ensures { λ r. ⌜ r ≡ stopAfter level c p q steps ⌝ }
+{
+    if steps == leg::distance(p, q) {
+        return Stop::Clear;
+    }
+    edge(
+        level,
+        c,
+        leg::vertex(p, q, steps),
+        leg::vertex(p, q, steps + 1),
+    )
+}
+
+// Unit edge by unit edge from p to q: how many come before one that has blocked cells on both sides.
+pub fn open_edges(
     cells: &[u8],
     width: usize,
     height: usize,
@@ -28,20 +45,20 @@ pub fn edges_stop(
     c: usize,
     p: usize,
     q: usize,
-) -> Stop
+) -> usize
     requires { ⌜ Sound (board (now cells) width height) ⌝ }
     requires { ⌜ c ≤ cond level height width ⌝ }
     requires { ⌜ (p ≤ cond level width height) × (q ≤ cond level width height) ⌝ }
-    ensures { λ r. ⌜ r ≡ edgesStop (board (now (cells .entry)) width height) level c p q ⌝ }
+    ensures { λ r. ⌜ r ≡ openEdges (board (now (cells .entry)) width height) level c p q ⌝ }
 {
     let n = leg::distance(p, q);
     let mut u: usize = 0;
     let found = 'edges: loop {
         if u == n {
-            break 'edges Stop::Clear;
+            break 'edges n;
         }
         if is_walled(cells, width, height, level, c, leg::cell(p, q, u)) {
-            break 'edges edge(level, c, leg::vertex(p, q, u), leg::vertex(p, q, u + 1));
+            break 'edges u;
         }
         u += 1;
     };

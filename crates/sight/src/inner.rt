@@ -4,12 +4,13 @@ ghost use mathlib.Core.Bool.{true};
 ghost use Rattle.board.specs.Board.{Sound, board};
 ghost use Rattle.sight.specs.Leg.{Ends};
 ghost use Rattle.sight.specs.Sight.{sees};
-ghost use Rattle.sight.specs.Stops.{isClear, firstStop};
+ghost use Rattle.sight.specs.Stops.{firstStop};
 ghost use Rattle.sight.specs.Neighbours.{neighbours};
 use crate::Stop;
-use crate::edges::edges_stop;
+use crate::edges::open_edges;
+use crate::edges::stop_after;
 use crate::leg;
-use crate::walk::cells_stop;
+use crate::walk::first_blocked;
 use crate::walls::is_column_wall;
 use crate::walls::is_row_wall;
 use board::inner::is_cell_blocked;
@@ -29,23 +30,18 @@ pub fn first_stop(
     ensures { λ r. ⌜ r ≡ firstStop (board (now (cells .entry)) width height) ax ay bx by ⌝ }
 {
     if ay == by {
-        return edges_stop(cells, width, height, true, ay, ax, bx);
+        let steps = open_edges(cells, width, height, true, ay, ax, bx);
+        return stop_after(true, ay, ax, bx, steps);
     }
     if ax == bx {
-        return edges_stop(cells, width, height, false, ax, ay, by);
+        let steps = open_edges(cells, width, height, false, ax, ay, by);
+        return stop_after(false, ax, ay, by, steps);
     }
-    cells_stop(cells, width, height, ax, ay, bx, by)
-}
-
-// Whether nothing stops the leg.
-fn is_clear(stop: Stop) -> bool
-    ensures { λ r. ⌜ r ≡ isClear stop ⌝ }
-{
-    match stop {
-        Stop::Clear => true,
-        Stop::Cell(_, _) => false,
-        Stop::Edge(_, _, _, _) => false,
+    let index = first_blocked(cells, width, height, ax, ay, bx, by);
+    if index == cells.len() {
+        return Stop::Clear;
     }
+    Stop::Cell(index % width, index / width)
 }
 
 // Whether the leg from (ax, ay) to (bx, by) has sight.
@@ -62,7 +58,13 @@ pub fn sees(
     requires { ⌜ Ends (board (now cells) width height) ax ay bx by ⌝ }
     ensures { λ r. ⌜ r ≡ sees (board (now (cells .entry)) width height) ax ay bx by ⌝ }
 {
-    is_clear(first_stop(cells, width, height, ax, ay, bx, by))
+    if ay == by {
+        return open_edges(cells, width, height, true, ay, ax, bx) == leg::distance(ax, bx);
+    }
+    if ax == bx {
+        return open_edges(cells, width, height, false, ax, ay, by) == leg::distance(ay, by);
+    }
+    first_blocked(cells, width, height, ax, ay, bx, by) == cells.len()
 }
 
 // The same for neighbours, by the one cell between them or the two beside them.

@@ -3,14 +3,14 @@ ghost use mathlib.Core.Path.{_≡_};
 ghost use Prim.Native.Nat.{_<_};
 ghost use Rattle.board.specs.Board.{Sound, board};
 ghost use Rattle.sight.specs.Leg.{Ends, far};
-ghost use Rattle.sight.specs.Stops.{cellsStop};
-use crate::Stop;
+ghost use Rattle.sight.specs.Stops.{stopAt, cellsStop};
 use crate::leg;
 
-// Column by column from the first end, and in each column the cells that the leg crosses, until one is blocked.
-// The leg is n columns and m rows long and has come u columns and v rows, to the corner with this index. Drawn with columns
-// m wide and rows n high it is a diagonal: `ahead` is how far the column goes on past the row's begin, m * (u + 1) - n * v.
-pub fn cells_stop(
+// The index of the first blocked cell that the leg crosses, or the number of cells if it crosses none: column by column
+// from the first end, and in each column the cells that the leg crosses.
+// The leg is n columns and m rows long and has come to the cell u columns and v rows on. Drawn with columns m wide and rows
+// n high it is a diagonal: `ahead` is how far the row goes on past the column's begin, n * (v + 1) - m * u.
+pub fn first_blocked(
     cells: &[u8],
     width: usize,
     height: usize,
@@ -18,11 +18,11 @@ pub fn cells_stop(
     ay: usize,
     bx: usize,
     by: usize,
-) -> Stop
+) -> usize
     requires { ⌜ Sound (board (now cells) width height) ⌝ }
     requires { ⌜ Ends (board (now cells) width height) ax ay bx by ⌝ }
     requires { ⌜ (0 < far ax bx) × (0 < far ay by) ⌝ }
-    ensures { λ r. ⌜ r ≡ cellsStop (board (now (cells .entry)) width height) ax ay bx by ⌝ }
+    ensures { λ r. ⌜ stopAt (board (now (cells .entry)) width height) r ≡ cellsStop (board (now (cells .entry)) width height) ax ay bx by ⌝ }
 {
     let n = leg::distance(ax, bx);
     let m = leg::distance(ay, by);
@@ -30,33 +30,31 @@ pub fn cells_stop(
     let left = leg::forward(bx, ax, 1);
     let down = leg::forward(ay, by, width);
     let up = leg::forward(by, ay, width);
-    let mut u: usize = 0;
-    let mut v: usize = 0;
-    let mut ahead = m;
-    let mut corner = ay * width + ax;
+    let last = by * width + bx - down - right;
+    let mut ahead = n;
+    let mut cell = ay * width + ax - up - left;
     let found = 'columns: loop {
-        if u == n {
-            break 'columns Stop::Clear;
-        }
         loop {
-            if cells[corner - up - left] == 1 {
-                break 'columns Stop::Cell(leg::cell(ax, bx, u), leg::cell(ay, by, v));
+            if cells[cell] == 1 {
+                break 'columns cell;
             }
-            // It leaves the column inside this row.
-            if ahead < n {
+            // The column ends in this row.
+            if m <= ahead {
                 break;
             }
-            v += 1;
-            ahead -= n;
-            corner = corner + down - up;
-            // It leaves the column by a corner: the cells beyond are only touched.
-            if ahead == 0 {
-                break;
-            }
+            ahead += n;
+            cell = cell + down - up;
         }
-        u += 1;
-        ahead += m;
-        corner = corner + right - left;
+        // It ends where the row does: at a corner, the cells beside it are only touched, and the leg may be at its end.
+        if ahead == m {
+            if cell == last {
+                break 'columns cells.len();
+            }
+            ahead += n;
+            cell = cell + down - up;
+        }
+        ahead -= m;
+        cell = cell + right - left;
     };
     found
 }

@@ -1,17 +1,18 @@
--- `sight::edges::edges_stop` finds the first walled edge of a leg: each need is a law of proofs/Edging.antt at the place's numbers.
+-- `sight::edges::open_edges` counts the open edges of a leg: each need is a law of proofs/Edging.antt at the place's numbers.
 use Prim.Native.Nat.{_-_}
-use mathlib.Core.Path.{_≡_, sym, _∙_, ap₂}
+use mathlib.Core.Path.{_≡_, sym, _∙_}
 use mathlib.Core.Bool.{Bool}
 use native.Mathlib.Omega.{arith}
 use borrow.Author.Needs.{needs}
 use denote.Ref.{now}
+use Rattle.laws.proofs.Below.{none-yet}
 use Rattle.board.specs.Board.{board}
 use Rattle.sight.specs.Leg.{cellAt}
-use Rattle.sight.specs.Stops.{walled, edgeFrom}
+use Rattle.sight.specs.Stops.{walled}
 use Rattle.sight.proofs.Axis.{axis-on}
 use Rattle.sight.proofs.Edging.{AtEdge, edges-done, edge-passed, edges-stopped}
-use Rattle.sight.proofs.edges.edges_stop.Statement.{statement}
-use Rattle.sight.proofs.edges.edges_stop.Tie as tie
+use Rattle.sight.proofs.edges.open_edges.Statement.{statement}
+use Rattle.sight.proofs.edges.open_edges.Tie as tie
 
 abbrev Inv-edges : tie.InvT-edges
 Inv-edges cells width height level c p q n u₀ u = AtEdge (board cells width height) level c p q n u
@@ -23,8 +24,7 @@ distance-requires : tie.Need-distance-requires Inv-edges μ-edges
 distance-requires c κs = search needs
 
 edges-holds : tie.Need-edges-holds Inv-edges μ-edges
-edges-holds c =
-    record { n-is = c .distance .ensures; u-on = omega arith; past = λ k l. absurd (omega arith) }
+edges-holds c = record { n-is = c .distance .ensures; u-on = omega arith; past = none-yet _ }
 
 cell-requires : tie.Need-cell-requires Inv-edges μ-edges
 cell-requires c κs = search needs
@@ -36,18 +36,6 @@ is-walled-requires c κs =
     let a = s .args in
     let on = axis-on (a .p) (a .q) (t .edges .u) (omega arith) _ (s .pre .1 .1 .0) (s .pre .1 .1 .1) in
     (s .pre .0, (s .pre .1 .0, rw (c .cell .ensures) on))
-
-vertex-requires : tie.Need-vertex-requires Inv-edges μ-edges
-vertex-requires c κs = search needs
-
-add-vertex : tie.Need-add-vertex Inv-edges μ-edges
-add-vertex c = omega arith
-
-vertex-requires-2 : tie.Need-vertex-requires-2 Inv-edges μ-edges
-vertex-requires-2 c κs = search needs
-
-edge-requires : tie.Need-edge-requires Inv-edges μ-edges
-edge-requires c κs = search needs
 
 add-u : tie.Need-add-u Inv-edges μ-edges
 add-u c = omega arith
@@ -68,19 +56,15 @@ edges-again c =
     edge-passed (d .before .before .before .edges .inv) (omega arith) (heard d (c .if2 .left))
 
 returns : tie.Need-returns Inv-edges μ-edges
-returns c = sym (edges-done (c .before .edges .inv) (c .if1 .taken))
+returns c = edges-done (c .before .edges .inv) (c .if1 .taken)
 
 returns-2 : tie.Need-returns-2 Inv-edges μ-edges
 returns-2 c =
-    let d = c .before .before .before .before in
-    let t = d .before .before .before in
-    let a = t .before .before .before .args in
-    c .edge .ensures
-    ∙ ap₂ (edgeFrom (a .level) (a .c)) (c .before .before .vertex .ensures) (c .before .vertex2 .ensures)
-    ∙ sym (edges-stopped (t .edges .inv) (omega arith) (heard d (c .before .before .before .if2 .taken)))
+    let d = c .before in
+    edges-stopped (d .before .before .before .edges .inv) (omega arith) (heard d (c .if2 .taken))
 
-pub edges-stop-spec : {M : Type 1} → statement M
-edges-stop-spec =
+pub open-edges-spec : {M : Type 1} → statement M
+open-edges-spec =
     tie.close
     (tie.spec
     Inv-edges
@@ -89,10 +73,6 @@ edges-stop-spec =
     edges-holds
     cell-requires
     is-walled-requires
-    vertex-requires
-    add-vertex
-    vertex-requires-2
-    edge-requires
     add-u
     edges-less
     edges-again
