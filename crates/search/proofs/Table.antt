@@ -1,17 +1,29 @@
 -- The table of lengths: it begins empty, and an entry that is filled in is right. Assumes nothing.
 use mathlib.Core.Path.{_≡_, _∙_}
-use mathlib.Core.Logic.{_≢_}
+use mathlib.Core.Logic.{_⊎_, inl, inr, _≢_}
+use mathlib.Core.Bool.{false, _&&_}
 use mathlib.Core.List.{List}
-use Prim.Native.Nat.{ℕ, _*_, _^_, _<_}
+use Prim.Native.Nat.{ℕ, _*_, _^_, _≤_, _<_}
 use native.Mathlib.Omega.{arith}
 use native.Mathlib.Decide.{ℕ-discrete}
+use lib.Dec.{leb}
 use lib.ListN.{set, replicate, length-set, length-replicate, getD-replicate}
 use lib.Seq.{getD-set-same, getD-set-other}
+use borrow.Author.Tests.{leb-false, le-leb}
+use Rattle.laws.proofs.Tests.{order}
 use Rattle.length.specs.Units.{unitsOf}
 use Rattle.length.proofs.Root.{below}
 use Rattle.length.proofs.Units.{units-bounds}
 use Rattle.reach.specs.Turns.{at}
 use Rattle.search.specs.Lengths.{squares, Known}
+
+-- a leg that is not beyond the table has a place
+pub has-place : (largest s : ℕ) → s ≤ largest → (leb squares largest && leb squares s) ≡ false → s < squares
+has-place largest s l e = go (order largest squares)
+  where
+    go : (largest < squares) ⊎ (squares ≤ largest) → s < squares
+    go (inl h) = omega arith
+    go (inr h) = leb-false squares s (rw (le-leb squares largest h) at e)
 
 -- a length of the table fits its entry
 pub known-fits : (s : ℕ) → s < squares → unitsOf s < 2 ^ 32

@@ -6,10 +6,14 @@ ghost use Rattle.board.specs.Limits.{side};
 ghost use Rattle.length.specs.Legs.{step};
 ghost use Rattle.length.specs.Units.{unitsOf, units};
 ghost use Rattle.search.specs.Lengths.{Known};
+use board::SIDE;
 use length::inner::units_of_square;
 
 // Legs whose differences' squares sum up to less have a place in the table; it does not grow with the board.
 pub const SQUARES: usize = 8192;
+
+// The largest sum of squares on a board.
+const LARGEST: usize = 2 * SIDE * SIDE;
 
 // The square of the difference from a to b.
 fn squared(a: usize, b: usize) -> usize
@@ -27,7 +31,8 @@ fn units_by(s: usize, table: &mut [u32; SQUARES]) -> u64
     ensures { λ r. ⌜ r ≡ unitsOf s ⌝ }
     ensures { λ r. ⌜ Known (now (table .exit)) ⌝ }
 {
-    if SQUARES <= s {
+    // Where every leg of a board has a place, the compiler leaves this out.
+    if (SQUARES <= LARGEST) & (SQUARES <= s) {
         return units_of_square(s as u64);
     }
     let entry = table[s];

@@ -1,7 +1,10 @@
 -- `search::lengths::units_by` answers the table's entry where it has one; where it has none the length is computed and filled in.
+use Prim.Native.Nat.{_*_, _<_}
 use native.Mathlib.Omega.{arith}
 use borrow.Author.Needs.{needs}
-use Rattle.search.proofs.Table.{known-fits, known-set}
+use Rattle.board.specs.Limits.{side}
+use Rattle.search.specs.Lengths.{squares}
+use Rattle.search.proofs.Table.{has-place, known-fits, known-set}
 use Rattle.search.proofs.lengths.units_by.Statement.{statement}
 use Rattle.search.proofs.lengths.units_by.Tie as tie
 
@@ -11,23 +14,27 @@ units-of-square-requires c κs = search needs
 returns : tie.Need-returns
 returns c = search needs
 
+-- the leg has a place in the table
+placed : (k : tie.Else1) → k .before .args .s < squares
+placed k = has-place (2 * (side * side)) (k .before .args .s) (k .before .pre .0) (k .if1 .left)
+
 mul-entry : tie.Need-mul-entry
-mul-entry c = search needs
+mul-entry c = omega (arith, placed c)
 
 element-copy-out-entry : tie.Need-element-copy-out-entry
-element-copy-out-entry c = search needs
+element-copy-out-entry c = omega (arith, placed c)
 
 cast-result : tie.Need-cast-result
 cast-result c =
     let k = c .before .before in
     let s = k .before in
-    omega (arith, s .pre .1 .right (s .args .s) (k .if1 .left) (c .if2 .taken), known-fits (s .args .s) (k .if1 .left))
+    omega (arith, s .pre .1 .right (s .args .s) (placed k) (c .if2 .taken), known-fits (s .args .s) (placed k))
 
 returns-2 : tie.Need-returns-2
 returns-2 c =
     let k = c .before .before in
     let s = k .before in
-    (s .pre .1 .right (s .args .s) (k .if1 .left) (c .if2 .taken), s .pre .1)
+    (s .pre .1 .right (s .args .s) (placed k) (c .if2 .taken), s .pre .1)
 
 units-of-square-requires-2 : tie.Need-units-of-square-requires-2
 units-of-square-requires-2 c κs = search needs
@@ -35,19 +42,19 @@ units-of-square-requires-2 c κs = search needs
 cast-table : tie.Need-cast-table
 cast-table c =
     let k = c .before .before .before in
-    omega (arith, c .units-of-square2 .ensures, known-fits (k .before .args .s) (k .if1 .left))
+    omega (arith, c .units-of-square2 .ensures, known-fits (k .before .args .s) (placed k))
 
 mul-table : tie.Need-mul-table
-mul-table c = search needs
+mul-table c = omega (arith, placed (c .before .before .before))
 
 element-write-table : tie.Need-element-write-table
-element-write-table c = search needs
+element-write-table c = omega (arith, placed (c .before .before .before))
 
 returns-3 : tie.Need-returns-3
 returns-3 c =
     let k = c .before .before .before in
     let s = k .before in
-    (c .units-of-square2 .ensures, known-set (s .pre .1) (s .args .s) (c .units-of-square2 .result) (k .if1 .left) (c .units-of-square2 .ensures))
+    (c .units-of-square2 .ensures, known-set (s .pre .1) (s .args .s) (c .units-of-square2 .result) (placed k) (c .units-of-square2 .ensures))
 
 pub units-by-spec : {M : Type 1} → statement M
 units-by-spec =
