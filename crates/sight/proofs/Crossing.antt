@@ -10,7 +10,7 @@ use lib.Dec.{ltb}
 use Rattle.laws.proofs.Tests.{order, and-both, and-left, and-right}
 use Rattle.sight.specs.Sight.{positive, negative, someCorner, spans, crossed}
 use Rattle.sight.specs.Leg.{far, vertexAt, cellAt}
-use Rattle.sight.proofs.Every.{CornerOf, corner-same, corner-of, corner-at}
+use Rattle.sight.proofs.Corners.{CornerOf, corner-same, corner-of, corner-at}
 use Rattle.sight.proofs.Axis.{Within, axis-corner, axis-within, axis-near, axis-next, axis-spans, axis-of}
 use Rattle.sight.proofs.Sides.{plus, minus, positive-is, negative-is}
 
