@@ -34,7 +34,7 @@ module _ (job : List ℕ) where
   cells-length zero = refl
   cells-length (suc n) = length-append (cellsUpTo job n) (cell n ∷ []) ∙ omega (arith, cells-length n)
 
-  pub cells-at : (n k : ℕ) → k < n → getD (cellsUpTo job n) k 0 ≡ cell k
+  cells-at : (n k : ℕ) → k < n → getD (cellsUpTo job n) k 0 ≡ cell k
   unfolding cellsUpTo
   cells-at zero k l = absurd (omega arith)
   cells-at (suc n) k l =
@@ -63,7 +63,7 @@ cells-bits job = all-bits (cellsOf job) (λ (k : ℕ) (l : k < length (cellsOf j
 -- ---- painting gives them
 
 module _ {job : List ℕ} (a : Accepted job) where
-  pub wide : 0 < width job
+  wide : 0 < width job
   wide = side-least (width job) (width-fits a)
 
   -- no keepout reaches below the board
@@ -113,7 +113,7 @@ module _ {job : List ℕ} (a : Accepted job) where
     unfolding wanted
     same-length = simp (length-append, length-drop) (omega (arith, p .long, f .long, cells-length job (width job * height job)))
 
-    pub cells-drawn : after ≡ cellsOf job ++ drop (width job * height job) before
+    cells-drawn : after ≡ cellsOf job ++ drop (width job * height job) before
     unfolding wanted
     cells-drawn =
         ext-getD 0 after wanted same-length (λ (k : ℕ) (l : k < length after). ⊎-elim (on k) (beyond k) (order k (width job * height job)))

@@ -21,7 +21,7 @@ use Rattle.job.specs.declared.steps.Progress.{Progress}
 use Rattle.job.specs.declared.steps.Step.{Step}
 use Rattle.job.specs.declared.steps.Step.the-variants.{Next, Refused}
 use Rattle.job.proofs.steps.Step.{the-type}
-use Rattle.job.specs.Job.{records, byte, width, height, isBoard, isKeepout, isNet, isMisplaced, isLate, isOversized, isBadKeepout, netBefore, isUnordered, isEndOff, fault, isFaulty}
+use Rattle.job.specs.Job.{byte, width, height, isBoard, isKeepout, isNet, isMisplaced, isLate, isOversized, isBadKeepout, netBefore, isUnordered, isEndOff, fault, isFaulty}
 use Rattle.job.specs.Paper.{handedRefusal}
 use Rattle.job.specs.Steps.{told, readUpTo, handedStep, stepRow, boardStep, keepoutStep, netStep}
 use Rattle.job.proofs.Says.{isStray, Says, stray, board, keepout, net}

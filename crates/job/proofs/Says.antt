@@ -36,7 +36,7 @@ typed : (b k n : Bool) → not (b || (k || n)) ≡ false → b ≡ false → k �
 typed b k n h p q = rw (p, q) at (not-false (b || (k || n)) h)
 
 module _ (job : List ℕ) (i : ℕ) where
-  pub says : Says job i (recordAt job i)
+  says : Says job i (recordAt job i)
   unfolding recordAt isUnknown
   says =
       ⊎-elim

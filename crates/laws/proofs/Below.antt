@@ -54,7 +54,7 @@ module _ (t : ℕ → Bool) where
 
   -- ---- what the first that passes is
 
-  pub first-le : (n : ℕ) → firstWhere n t ≤ n
+  first-le : (n : ℕ) → firstWhere n t ≤ n
   unfolding firstWhere
   first-le zero = omega arith
   first-le (suc n) =
@@ -278,6 +278,3 @@ module _ (t : ℕ → Bool) where
   module _ (n k : ℕ) (l : k < howMany n t) where
     pub indexed-does-pass : t (firstWhere n (indexed k)) ≡ true
     indexed-does-pass = indexed-passes k (firstWhere n (indexed k)) (first-passes (indexed k) n (indexed-below n k l))
-
-    pub indexed-counts : howMany (firstWhere n (indexed k)) t ≡ k
-    indexed-counts = indexed-index k (firstWhere n (indexed k)) (first-passes (indexed k) n (indexed-below n k l))

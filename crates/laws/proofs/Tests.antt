@@ -1,7 +1,7 @@
 -- What tests say: `not`, `&&`, `||`, and two numbers in order. Assumes nothing.
 use mathlib.Core.Path.{_≡_, refl, sym}
 use mathlib.Core.Logic.{_⊎_, inl, inr}
-use mathlib.Core.Bool.{Bool, true, false, not, _&&_, _||_, false≢true, true≢false}
+use mathlib.Core.Bool.{Bool, true, false, not, _&&_, _||_, false≢true}
 use Prim.Native.Nat.{ℕ, _≤_, _<_}
 use native.Mathlib.Decide.{decLt}
 use native.Mathlib.Omega.{arith}
@@ -42,10 +42,6 @@ or-right false p = p
 pub or-false : (a : Bool) → (a || false) ≡ a
 or-false true = refl
 or-false false = refl
-
-pub true-of : (a : Bool) → (a ≡ false → ⊥) → a ≡ true
-true-of true f = refl
-true-of false f = absurd (f refl)
 
 pub false-of : (a : Bool) → (a ≡ true → ⊥) → a ≡ false
 false-of true f = absurd (f refl)

@@ -165,7 +165,7 @@ module _ {n : ℕ} {near : ℕ → ℕ → Bool} {start : ℕ} (F : Ground n nea
     all-done z here = z start (F .start-on) (i .first)
     all-done z (move {u} {v} r h) = z v (F .near-laws .below u v h) (i .closed u v (reach-below r) (all-done z r) h)
 
-    pub idle-decides : Idle n seen done → Decides n (Reach near start) done
+    idle-decides : Idle n seen done → Decides n (Reach near start) done
     idle-decides z = record { yes-has = done-reach; has-yes = λ v l r. all-done z r }
 
     pub idle-number : Idle n seen done → Number n (Reach near start) e

@@ -12,28 +12,10 @@ use borrow.Author.Tests.{ne-eqb}
 use Rattle.laws.proofs.Tests.{bool-cases}
 use Rattle.laws.specs.Below.{howMany}
 use Rattle.laws.proofs.Below.{many-le}
-use Rattle.reach.specs.Number.{Decides, Number, Number²}
+use Rattle.reach.specs.Number.{Number, Number²}
 use Rattle.reach.specs.Reach.{Reach, NearPair, Ground}
 use Rattle.reach.specs.Turns.{at, seenIn, doneIn, Choice, nothing, arrived, vertex, Mode, Result, turns}
-use Rattle.reach.proofs.Steps.{
-  Step,
-  Inv,
-  Idle,
-  Tested,
-  unmet,
-  reach-below,
-  inv-start,
-  inv-step,
-  tested-start,
-  tested-step,
-  all-done,
-  idle-decides,
-  idle-number,
-  idle-pairs,
-  open-fewer,
-  open-room,
-  tests-at-most,
-}
+use Rattle.reach.proofs.Steps.{Step, Inv, Idle, Tested, unmet, reach-below, inv-start, inv-step, tested-start, tested-step, all-done, idle-number, idle-pairs, open-fewer, open-room, tests-at-most}
 use Rattle.reach.proofs.Marks.{Marks, taking, marks-step, marks-kept, length-taking}
 
 -- ---- one turn
@@ -219,10 +201,6 @@ module _ {S : Type 0} {M : Mode S} {n : ℕ} {near : ℕ → ℕ → Bool} {star
         go : (r .found ≡ true) ⊎ (r .found ≡ false) → r .found ≡ true
         go (inl e) = e
         go (inr e) = absurd (true≢false (sym (all-done F (E .sane .inv) (E .idle e) R) ∙ E .sane .goal-left (reach-below F R)))
-
-    -- with none, the expanded vertices are the reachable ones
-    pub none-decides : r .found ≡ false → Decides n (Reach near start) (doneIn (M .mark (r .state)))
-    none-decides f = idle-decides F (E .sane .inv) (E .idle f)
 
     pub none-expansions : r .found ≡ false → Number n (Reach near start) (M .expansions (r .state))
     none-expansions f = idle-number F (E .sane .inv) (E .idle f)

@@ -2,16 +2,16 @@
 use mathlib.Core.Path.{_≡_, refl, sym, ap, _∙_}
 use mathlib.Core.Bool.{Bool, true, false, not, _||_, cond, true≢false}
 use mathlib.Core.List.{List, [], _∷_, _++_}
-use Prim.Native.Nat.{ℕ, suc, _≤_, _<_}
+use Prim.Native.Nat.{ℕ, suc, _≤_}
 use native.Mathlib.Omega.{arith}
-use types.Run.{OneOf, miss}
+use types.Run.{OneOf}
 use denote.Enum.Declared.{tagOf}
 use lib.Dec.{ltb, eqb}
 use lib.ListN.{length, drop, length-append}
 use borrow.Author.Tests.{ne-eqb, ltb-false}
 use Rattle.board.specs.declared.Checked.{Checked}
 use Rattle.board.specs.declared.Checked.the-variants.{Accepted, Side, Count, Byte, First, Second}
-use Rattle.board.specs.Board.{Board, vertices, Sound, OnBoard}
+use Rattle.board.specs.Board.{Board, vertices}
 use Rattle.board.specs.Paper.{Handed, refusal, accepted, legRows}
 use Rattle.board.specs.Paper as checks
 use Rattle.board.proofs.Checked.{the-type}

@@ -4,8 +4,8 @@ use mathlib.Core.Path.{_≡_, refl, sym, _∙_}
 use mathlib.Core.Logic.{_≢_}
 use mathlib.Core.Bool.{Bool, true, false, cond, true≢false}
 use mathlib.Core.List.{List}
-use Prim.Native.Nat.{ℕ, zero, suc, _+_, _*_, _/_, _≤_, _<_}
-use native.Mathlib.Nat.{zero-mul, suc-mul, mul-le-mul-right, div-add-mod', mod-lt, div-lt-iff-lt-mul}
+use Prim.Native.Nat.{ℕ, zero, suc, _+_, _*_, _≤_, _<_}
+use native.Mathlib.Nat.{zero-mul, suc-mul, mul-le-mul-right}
 use native.Mathlib.Omega.{arith}
 use native.Mathlib.Decide.{ℕ-discrete, decLt}
 use lib.ListN.{length, set, length-set}
@@ -21,13 +21,6 @@ use Rattle.search.proofs.First.{first-on, first-unique, first-join, fir
 
 pub rows-le : (wide rows y : ℕ) → y < rows → y * wide + wide ≤ rows * wide
 rows-le wide rows y l = rw (sym (suc-mul y wide)) (mul-le-mul-right wide l)
-
--- the row of a vertex, by division
-pub row-of : (wide rows w : ℕ) → 0 < wide → w < rows * wide → RowOf wide rows (w / wide) w
-row-of wide rows w s l =
-    let q = div-add-mod' w wide in
-    let t = mod-lt w s in
-    record { on = div-lt-iff-lt-mul s .1 l; low = omega arith; high = omega arith }
 
 -- another row's vertices are others
 apart : {wide rows y w : ℕ} → RowOf wide rows y w → (j v : ℕ) → j ≢ y → j * wide ≤ v → v < j * wide + wide → v ≢ w

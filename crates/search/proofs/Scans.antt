@@ -16,7 +16,7 @@ use Rattle.search.proofs.Order.{beats-f}
 use Rattle.search.proofs.First.{first-on, first-none, first-more}
 
 -- the test against the holder r, whose f is known where there is a holder, is the order's
-pub beats-before : (p : Problem) (g : List ℕ) (q r h f : ℕ) → h ≡ fOf p g q → (r ≢ p .size → f ≡ fOf p g r)
+beats-before : (p : Problem) (g : List ℕ) (q r h f : ℕ) → h ≡ fOf p g q → (r ≢ p .size → f ≡ fOf p g r)
     → beats (p .size) (ranked h (at g q) q) (ranked f (at g r) r) ≡ (eqb r (p .size) || before p g q r)
 beats-before p g q r h f e k = go (ℕ-discrete r (p .size))
   where
@@ -32,18 +32,18 @@ pub record Picking (p : Problem) (g champ : List ℕ) (y r f : ℕ) : Type 0 whe
   pub on : r ≢ p .size → r < p .size
   pub right : r ≢ p .size → f ≡ fOf p g r
 
-pub picking-start : (p : Problem) (g champ : List ℕ) (f : ℕ) → Picking p g champ 0 (p .size) f
+picking-start : (p : Problem) (g champ : List ℕ) (f : ℕ) → Picking p g champ 0 (p .size) f
 unfolding top
 picking-start p g champ f = record { is = refl; on = λ d. absurd (d refl); right = λ d. absurd (d refl) }
 
 module _ {p : Problem} {g champ : List ℕ} {y r f : ℕ} (P : Picking p g champ y r f) where
   -- row y has no champion
-  pub picking-none : at champ y ≡ p .size → Picking p g champ (y + 1) r f
+  picking-none : at champ y ≡ p .size → Picking p g champ (y + 1) r f
   unfolding top
   picking-none e = record { is = P .is ∙ sym (rw (add-one y, eq-eqb (at champ y) (p .size) e) refl); on = P .on; right = P .right }
 
   -- row y has one, with the f h, and x says whether it beats the holder
-  pub picking-more : (h : ℕ) → at champ y ≢ p .size → at champ y < p .size → h ≡ fOf p g (at champ y) → (x : Bool)
+  picking-more : (h : ℕ) → at champ y ≢ p .size → at champ y < p .size → h ≡ fOf p g (at champ y) → (x : Bool)
       → x ≡ beats (p .size) (ranked h (at g (at champ y)) (at champ y)) (ranked f (at g r) r)
       → Picking p g champ (y + 1) (cond x (at champ y) r) (cond x h f)
   unfolding top

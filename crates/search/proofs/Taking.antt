@@ -70,7 +70,7 @@ module _ (p : Problem) (u : ℕ) (s : State) where
       rw (around-mark k (λ v l. h v (omega arith)), turned-later (p .near) u (s .mark) k k (omega arith)) refl in
       omega (arith, relax-tests p u k (around p u k s) (due p u k (around p u k s)))
 
-  pub around-expansions : (k : ℕ) → (around p u k s) .expansions ≡ s .expansions
+  around-expansions : (k : ℕ) → (around p u k s) .expansions ≡ s .expansions
   unfolding around
   around-expansions zero = refl
   around-expansions (suc k) = relax-expansions p u k (around p u k s) (due p u k (around p u k s)) ∙ around-expansions k

@@ -12,20 +12,20 @@ use Rattle.sight.specs.Sight.{rowWall, columnWall}
 
 -- what is beyond the board is blocked
 module _ (b : Board) where
-  pub outside-below : (x : ℕ) → blocked b x (b .height) ≡ true
+  outside-below : (x : ℕ) → blocked b x (b .height) ≡ true
   unfolding blocked
   outside-below x =
       let e : (ltb x (b .width) && ltb (b .height) (b .height)) ≡ false =
       and-false (ltb x (b .width)) (le-ltb (b .height) (b .height) (omega arith)) in
       rw e
 
-  pub outside-right : (y : ℕ) → blocked b (b .width) y ≡ true
+  outside-right : (y : ℕ) → blocked b (b .width) y ≡ true
   unfolding blocked
   outside-right y = rw (le-ltb (b .width) (b .width) (omega arith))
 
 -- the two sides of the vertices' line c across `lines` lines of cells
 module _ (line : ℕ → Bool) (c lines : ℕ) (some : 0 < lines) (on : c ≤ lines) (outside : line lines ≡ true) where
-  pub both-sides : ((eqb c 0 || line (c - 1)) && line c) ≡ (line (c - 1) && line (min c (lines - 1)))
+  both-sides : ((eqb c 0 || line (c - 1)) && line c) ≡ (line (c - 1) && line (min c (lines - 1)))
   both-sides =
       ⊎-elim (λ (z : c < 1). first (omega arith))
       (λ (p : 1 ≤ c). ⊎-elim (λ (l : c < lines). inside (λ e. omega arith) l) (λ (g : lines ≤ c). final (omega arith)) (order c lines)) (order c 1)

@@ -75,7 +75,7 @@ abbrev Height : (over under : ℕ → ℕ → ℕ) (ax ay bx by : ℕ) → Type 
 Height over under ax ay bx by =
     (px py : ℕ) → Within ax bx px → Within ay by py → over px py + far ay by * far ax px ≡ under px py + far ax bx * far ay py
 
-pub heights : (ax ay bx by : ℕ) → Height (plus ax ay bx by) (minus ax ay bx by) ax ay bx by ⊎ Height (minus ax ay bx by) (plus ax ay bx by) ax ay bx by
+heights : (ax ay bx by : ℕ) → Height (plus ax ay bx by) (minus ax ay bx by) ax ay bx by ⊎ Height (minus ax ay bx by) (plus ax ay bx by) ax ay bx by
 heights ax ay bx by =
     ⊎-elim
     (λ (l : ax < bx). ⊎-elim

@@ -54,7 +54,7 @@ no-edge p q size wall e =
     omega (arith, d .0, d .1)))
 
 module _ (p q size : ℕ) (wall : ℕ → Bool) (hp : p ≤ size) (hq : q ≤ size) where
-  pub steps-every : every size (λ (k : ℕ). not (between p q k && wall k)) ≡ every (far p q) (λ (u : ℕ). not (wall (cellAt p q u)))
+  steps-every : every size (λ (k : ℕ). not (between p q k && wall k)) ≡ every (far p q) (λ (u : ℕ). not (wall (cellAt p q u)))
   unfolding between
   steps-every =
       same-test _ _

@@ -2,7 +2,7 @@
 use mathlib.Core.Path.{_≡_, refl}
 use mathlib.Core.List.{[], _∷_}
 use Rattle.laws.specs.Below.{every}
-use Rattle.board.specs.Board.{board, blocked}
+use Rattle.board.specs.Board.{blocked}
 use Rattle.board.specs.Paper.{firstBad, boardRows, endRows}
 use Rattle.length.specs.Root.{root, rootIn}
 use Rattle.length.specs.Units.{unitsOf}
