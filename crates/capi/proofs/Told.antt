@@ -1,5 +1,5 @@
 -- An answer that is known to be one variant is told as that variant is: `search` finds each arm of a match by one of these. Assumes nothing.
-use mathlib.Core.Path.{_≡_, refl, ap₂, _∙_}
+use mathlib.Core.Path.{_≡_, ap₂, _∙_}
 use Prim.Native.Nat.{ℕ}
 use Rattle.board.specs.Paper.{refusal}
 use Rattle.length.specs.declared.Measured.{Measured}
@@ -9,12 +9,12 @@ use Rattle.sight.specs.declared.Answer.{Answer}
 use Rattle.sight.specs.Paper.{handed}
 use Rattle.router.specs.declared.Answer as router
 use Rattle.job.specs.declared.JobRefusal.{JobRefusal}
-use Rattle.job.specs.declared.JobRefusal.the-variants.{Long, Uneven, Order, Stray, Side, Keepout, End, Number, Late}
 use Rattle.job.specs.declared.BoardAnswer.{BoardAnswer}
 use Rattle.job.specs.declared.BoardAnswer.the-variants as board-read
 use Rattle.job.specs.declared.NetAnswer.{NetAnswer}
 use Rattle.job.specs.declared.NetAnswer.the-variants as net-read
 use Rattle.job.specs.Paper.{handedRefusal, handedBoard, handedNet}
+use Rattle.job.proofs.Judging.{is-refusal}
 use Rattle.capi.specs.declared.Seen.{Seen}
 use Rattle.capi.specs.declared.Long as long
 use Rattle.capi.specs.declared.Toward.{Toward}
@@ -45,18 +45,7 @@ net-as e f = rw e f
 
 module _ (w : JobRefusal) {n p : ℕ} (e : n ≡ handedRefusal w .number) (f : p ≡ handedRefusal w .place) where
   whole : refusal n p ≡ handedRefusal w
-  whole = ap₂ (λ (n p : ℕ). refusal n p) e f ∙ each w
-    where
-      each : (w : JobRefusal) → refusal (handedRefusal w .number) (handedRefusal w .place) ≡ handedRefusal w
-      each Long = refl
-      each Uneven = refl
-      each (Order i) = refl
-      each (Stray i) = refl
-      each (Side i) = refl
-      each (Keepout i) = refl
-      each (End i) = refl
-      each (Number i) = refl
-      each (Late i) = refl
+  whole = let (m, q, i) = is-refusal w in ap₂ (λ (n p : ℕ). refusal n p) e f ∙ rw i
 
   pub board-why : {a : BoardAnswer} {r : Sides} → a ≡ board-read.Refused w → r ≡ toldBoard (refusal n p) → r ≡ toldBoard (handedBoard a)
   board-why g h = rw (g, ← whole) h

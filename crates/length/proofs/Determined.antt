@@ -4,7 +4,7 @@ use mathlib.Core.Bool.{cond}
 use lib.Dec.{eqb}
 use lib.ListN.{getD}
 use lib.Ieee.{nan}
-use Rattle.board.specs.Paper.{Handed}
+use Rattle.board.specs.Paper.{Handed, value}
 use Rattle.length.specs.declared.Measured.{Measured}
 use Rattle.length.specs.declared.Measured.the-variants as measured
 use Rattle.length.specs.declared.Aimed.{Aimed}
@@ -15,7 +15,7 @@ use Rattle.length.specs.Paper.{handedLength, handedDirection}
 lengthFrom : Handed → Measured
 lengthFrom h =
     cond (eqb (h .number) 4) measured.First
-    (cond (eqb (h .number) 5) measured.Second (measured.Of (record { units = getD (h .values) 0 0 })))
+    (cond (eqb (h .number) 5) measured.Second (measured.Of (record { units = value h 0 })))
 
 length-back : (r : Measured) → lengthFrom (handedLength r) ≡ r
 unfolding lengthFrom

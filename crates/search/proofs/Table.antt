@@ -4,12 +4,13 @@ use mathlib.Core.Logic.{_≢_}
 use mathlib.Core.List.{List}
 use Prim.Native.Nat.{ℕ, _+_, _-_, _*_, _^_, _<_}
 use native.Mathlib.Omega.{arith}
-use mathlib.Core.Bool.{Bool, true, false, _||_, true≢false}
+use mathlib.Core.Bool.{false, _||_}
 use lib.Dec.{leb}
 use borrow.Author.Tests.{leb-false}
 use native.Mathlib.Decide.{ℕ-discrete}
 use lib.ListN.{set, replicate, length-set, length-replicate, getD-replicate}
 use lib.Seq.{getD-set-same, getD-set-other}
+use Rattle.laws.proofs.Tests.{or-neither}
 use Rattle.length.specs.Legs.{step}
 use Rattle.length.specs.Units.{unitsOf, units}
 use Rattle.length.proofs.Units.{units-most}
@@ -19,11 +20,7 @@ use Rattle.search.specs.Lengths.{known, Known}
 
 -- both differences are below the table's
 pub both-known : (x y : ℕ) → (leb known x || leb known y) ≡ false → (x < known) × (y < known)
-both-known x y e = (leb-false known x (none (leb known x) (leb known y) e .0), leb-false known y (none (leb known x) (leb known y) e .1))
-  where
-    none : (a c : Bool) → (a || c) ≡ false → (a ≡ false) × (c ≡ false)
-    none true c h = absurd (true≢false h)
-    none false c h = (refl, h)
+both-known x y e = let (p, q) = or-neither (leb known x) (leb known y) e in (leb-false known x p, leb-false known y q)
 
 -- two places of the table are the same only for the same differences
 same-place : (x y i j : ℕ) → y < known → j < known → x * known + y ≡ i * known + j → (x ≡ i) × (y ≡ j)
