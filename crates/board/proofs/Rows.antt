@@ -4,6 +4,7 @@ use mathlib.Core.Bool.{Bool, true, false, not, _&&_, cond}
 use mathlib.Core.List.{[], _∷_}
 use Prim.Native.Nat.{ℕ, suc, _*_, _≤_, _<_}
 use native.Mathlib.Nat.{mul-le-mul}
+use native.Mathlib.Omega.{arith}
 use types.Run.{OneOf, miss}
 use denote.Enum.Declared.{tagOf}
 use lib.Dec.{leb, ltb, eqb}
@@ -57,14 +58,14 @@ cells-few w h p q = mul-le-mul (side-le w p) (side-le h q)
 
 -- ---- the rows as screens
 
--- any variant but the first is a refusal
-pub is-refusal : (r : Checked) → OneOf (1 ∷ 2 ∷ 3 ∷ 4 ∷ 5 ∷ []) (tagOf the-type r) → (n : ℕ) × (p : ℕ) × (handed r ≡ refusal (suc n) p)
+-- any variant but the first is a refusal 1 to 5
+pub is-refusal : (r : Checked) → OneOf (1 ∷ 2 ∷ 3 ∷ 4 ∷ 5 ∷ []) (tagOf the-type r) → (n : ℕ) × (p : ℕ) × (handed r ≡ refusal (suc n) p) × (n < 5)
 is-refusal Accepted k = absurd (miss (1 ∷ 2 ∷ 3 ∷ 4 ∷ 5 ∷ []) 0 tt k)
-is-refusal Side k = (0, 0, refl)
-is-refusal Count k = (1, 0, refl)
-is-refusal (Byte p) k = (2, p, refl)
-is-refusal First k = (3, 0, refl)
-is-refusal Second k = (4, 0, refl)
+is-refusal Side k = (0, 0, refl, omega arith)
+is-refusal Count k = (1, 0, refl, omega arith)
+is-refusal (Byte p) k = (2, p, refl, omega arith)
+is-refusal First k = (3, 0, refl, omega arith)
+is-refusal Second k = (4, 0, refl, omega arith)
 
 -- the three conditions
 abbrev badSides : Board → Bool

@@ -63,56 +63,25 @@ module _ (job : List ℕ) where
     unfolding readUpTo
     four = known ∙ rw some
 
-    pub width-read : p .width ≡ width job
-    width-read = cc four
-
-    pub height-read : p .height ≡ height job
-    height-read = cc four
-
-    last-read : p .last ≡ netBefore job i
-    last-read = cc four
-
-    pub nets-read : p .nets ≡ howMany i (isNet job)
-    nets-read = cc four
+    pub reads : (p .width ≡ width job) × (p .height ≡ height job) × (p .last ≡ netBefore job i) × (p .nets ≡ howMany i (isNet job))
+    reads = (cc four, cc four, cc four, cc four)
 
   keepout-at : (p : Progress) (i : ℕ) → told p ≡ readUpTo job i → isStray job i ≡ false → byte job i 0 ≡ 2
       → stepRow job i ≡ keepoutStep p i (byte job i 2) (byte job i 3) (byte job i 4) (byte job i 5)
   unfolding isMisplaced isLate isBadKeepout keepoutStep readUpTo netBefore howMany
   keepout-at p zero known e t = by-tests job 0 ∙ rw (e, t)
   keepout-at p (suc i) known e t =
-      by-tests job (suc i)
-      ∙ rw (
-        e,
-        some-many (isNet job) (suc i),
-        width-read p (suc i) (eqb·suc-zero i) known,
-        height-read p (suc i) (eqb·suc-zero i) known,
-        last-read p (suc i) (eqb·suc-zero i) known,
-        nets-read p (suc i) (eqb·suc-zero i) known,
-        t,
-        eqb·suc-zero i,
-        eqb·suc-zero (suc i),
-        none-more,
-      )
-    where
-      none-more : howMany (suc i) (isNet job) + 0 ≡ howMany (suc i) (isNet job)
-      none-more = omega arith
+      let (w, h, l, n) = reads p (suc i) (eqb·suc-zero i) known in
+      let none-more : howMany (suc i) (isNet job) + 0 ≡ howMany (suc i) (isNet job) = omega arith in
+      by-tests job (suc i) ∙ rw (e, some-many (isNet job) (suc i), w, h, l, n, t, eqb·suc-zero i, eqb·suc-zero (suc i), none-more)
 
   net-at : (p : Progress) (i : ℕ) → told p ≡ readUpTo job i → isStray job i ≡ false → byte job i 0 ≡ 3
       → stepRow job i ≡ netStep p i (byte job i 1) (byte job i 2) (byte job i 3) (byte job i 4) (byte job i 5)
   unfolding isMisplaced isLate isUnordered isEndOff netStep readUpTo netBefore howMany
   net-at p zero known e t = by-tests job 0 ∙ rw (e, t)
   net-at p (suc i) known e t =
-      by-tests job (suc i)
-      ∙ rw (
-        e,
-        width-read p (suc i) (eqb·suc-zero i) known,
-        height-read p (suc i) (eqb·suc-zero i) known,
-        last-read p (suc i) (eqb·suc-zero i) known,
-        nets-read p (suc i) (eqb·suc-zero i) known,
-        t,
-        eqb·suc-zero i,
-        eqb·suc-zero (suc i),
-      )
+      let (w, h, l, n) = reads p (suc i) (eqb·suc-zero i) known in
+      by-tests job (suc i) ∙ rw (e, w, h, l, n, t, eqb·suc-zero i, eqb·suc-zero (suc i))
 
 -- ---- the same by what the record says
 

@@ -11,7 +11,7 @@ use lib.ListN.{length, drop, length-append}
 use borrow.Author.Tests.{ne-eqb, ltb-false}
 use Rattle.laws.proofs.Tests.{or-neither}
 use Rattle.board.specs.declared.Checked.{Checked}
-use Rattle.board.specs.declared.Checked.the-variants.{Accepted, Side, Count, Byte, First, Second}
+use Rattle.board.specs.declared.Checked.the-variants.{Accepted}
 use Rattle.board.specs.Board.{Board, vertices}
 use Rattle.board.specs.Paper.{Handed, refusal, accepted, legRows}
 use Rattle.board.specs.Paper as checks
@@ -96,7 +96,7 @@ rooms n x y z e =
 
 -- a refused check is not an accepted one
 pub not-accepted : (r : Checked) → OneOf (1 ∷ 2 ∷ 3 ∷ 4 ∷ 5 ∷ []) (tagOf the-type r) → r ≡ Accepted → ⊥
-not-accepted r k e = let (n, q, i) = is-refusal r k in no-acceptance n q (sym i ∙ ap checks.handed e)
+not-accepted r k e = let (n, q, i, l) = is-refusal r k in no-acceptance n q (sym i ∙ ap checks.handed e)
 
 -- a refusal 1 to 6 is no search, and no path
 quiet : (n : ℕ) → suc n ≤ 6 → (searched (suc n) ≡ false) × (eqb (suc n) 0 ≡ false)
@@ -119,19 +119,8 @@ module _ (b : Board) (sx sy gx gy : ℕ) (g parents marks way : List ℕ) where
       → checks.handed r ≡ legRows b sx sy gx gy accepted → Routed b sx sy gx gy g parents marks way g parents marks way h
   unfolding routeRow
   routed-refused r k h e f =
-      let (n, q, i) = is-refusal r k in
-      rw (e ∙ i) (kept n q (few r k n q i) (sym (refused-on (legRows b sx sy gx gy) (leg-screen b sx sy gx gy) n q (sym f ∙ i) _)))
-    where
-      few : (r : Checked) → OneOf (1 ∷ 2 ∷ 3 ∷ 4 ∷ 5 ∷ []) (tagOf the-type r) → (n q : ℕ) → checks.handed r ≡ refusal (suc n) q → suc n ≤ 6
-      few r k n q i = let z : checks.handed r .number ≡ suc n = ap (λ (x : Handed). x .number) i in omega (arith, most r)
-        where
-          most : (r : Checked) → checks.handed r .number ≤ 5
-          most Accepted = omega arith
-          most Side = omega arith
-          most Count = omega arith
-          most (Byte p) = omega arith
-          most First = omega arith
-          most Second = omega arith
+      let (n, q, i, l) = is-refusal r k in
+      rw (e ∙ i) (kept n q (omega arith) (sym (refused-on (legRows b sx sy gx gy) (leg-screen b sx sy gx gy) n q (sym f ∙ i) _)))
 
   module _ (a : legRows b sx sy gx gy accepted ≡ accepted) where
     -- refused for a short work slice

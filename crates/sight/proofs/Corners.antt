@@ -1,4 +1,4 @@
--- What `someCorner` says. Assumes nothing.
+-- Some corner of a cell passes a test: which one does, and that one is enough. Assumes nothing.
 use Prim.Native.Nat.{ℕ, _+_, _≤_, _<_}
 use mathlib.Core.Path.{_≡_}
 use mathlib.Core.Logic.{⊎-elim}

@@ -1,4 +1,4 @@
--- The first stop of a row of them. Assumes nothing.
+-- The first stop of a leg: none where each is clear, the first that is not, and whether there is one. Assumes nothing.
 use Prim.Native.Nat.{ℕ, zero, suc, _≤_, _<_}
 use mathlib.Core.Path.{_≡_, refl, _∙_}
 use mathlib.Core.Logic.{⊎-elim}

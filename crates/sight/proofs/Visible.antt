@@ -1,4 +1,4 @@
--- Visible neighbours, as the search's theory asks for them. Assumes nothing.
+-- Visible neighbours are so both ways, never oneself, and on the board, as the search's theory asks. Assumes nothing.
 use Prim.Native.Nat.{ℕ, _+_, _<_}
 use mathlib.Core.Path.{_≡_, refl}
 use mathlib.Core.Bool.{Bool, true, false, _&&_, and-comm}

@@ -23,7 +23,7 @@ enum-told c = search needs
 returns : tie.Need-returns
 returns c =
     let e = c .before .check-board .ensures in
-    let (n, p, r) = is-refusal (c .before .check-board .result) (c .match .keys2) in
+    let (n, p, r, l) = is-refusal (c .before .check-board .result) (c .match .keys2) in
     r ∙ sym (refused-on _ (board-screen _) n p (sym e ∙ r) _)
 
 -- the board is accepted, so its ends decide
