@@ -7,18 +7,18 @@ use native.Mathlib.Numerals.{add-one}
 use native.Mathlib.Omega.{arith}
 use lib.Dec.{ltb, eqb}
 use borrow.Author.Tests.{lt-ltb, le-ltb, eq-eqb, eqb-true, eqb-false}
-use Rattle.laws.specs.Below.{every, some, one, howMany, firstWhere}
+use Rattle.laws.specs.Below.{every, some, asNumber, howMany, firstWhere}
 use Rattle.laws.proofs.Tests.{order, bool-cases, and-left, and-right, and-both, false-of, or-left, or-right, or-false}
 
 -- ---- one test
 
-one-le : (b : Bool) → one b ≤ 1
-one-le true = omega arith
-one-le false = omega arith
+number-le : (b : Bool) → asNumber b ≤ 1
+number-le true = omega arith
+number-le false = omega arith
 
-one-mono : (b c : Bool) → (b ≡ true → c ≡ true) → one b ≤ one c
-one-mono true c h = rw (h refl) (omega arith)
-one-mono false c h = omega arith
+number-mono : (b c : Bool) → (b ≡ true → c ≡ true) → asNumber b ≤ asNumber c
+number-mono true c h = rw (h refl) (omega arith)
+number-mono false c h = omega arith
 
 module _ (t : ℕ → Bool) where
   -- ---- the first that passes, from n to n + 1
@@ -156,12 +156,12 @@ module _ (t : ℕ → Bool) where
   pub many-le : (n : ℕ) → howMany n t ≤ n
   unfolding howMany
   many-le zero = omega arith
-  many-le (suc n) = omega (arith, many-le n, one-le (t n))
+  many-le (suc n) = omega (arith, many-le n, number-le (t n))
 
   pub many-none : (n : ℕ) → ((i : ℕ) → i < n → t i ≡ false) → howMany n t ≡ 0
   unfolding howMany
   many-none zero f = refl
-  many-none (suc n) f = omega (arith, ap one (f n (omega arith)), many-none n (λ (i : ℕ) (l : i < n). f i (omega arith)))
+  many-none (suc n) f = omega (arith, ap asNumber (f n (omega arith)), many-none n (λ (i : ℕ) (l : i < n). f i (omega arith)))
 
   many-grow : (i n : ℕ) → i ≤ n → howMany i t ≤ howMany n t
   unfolding howMany
@@ -194,20 +194,20 @@ module _ (t s : ℕ → Bool) where
   pub many-same : (n : ℕ) → ((i : ℕ) → i < n → t i ≡ s i) → howMany n t ≡ howMany n s
   unfolding howMany
   many-same zero h = refl
-  many-same (suc n) h = ap₂ _+_ (many-same n (λ i l. h i (omega arith))) (ap one (h n (omega arith)))
+  many-same (suc n) h = ap₂ _+_ (many-same n (λ i l. h i (omega arith))) (ap asNumber (h n (omega arith)))
 
   pub many-mono : (n : ℕ) → ((i : ℕ) → i < n → t i ≡ true → s i ≡ true) → howMany n t ≤ howMany n s
   unfolding howMany
   many-mono zero h = omega arith
-  many-mono (suc n) h = omega (arith, one-mono (t n) (s n) (h n (omega arith)), many-mono n (λ i l. h i (omega arith)))
+  many-mono (suc n) h = omega (arith, number-mono (t n) (s n) (h n (omega arith)), many-mono n (λ i l. h i (omega arith)))
 
   -- they differ at most at u
-  pub many-but-one : (n u : ℕ) → u < n → ((i : ℕ) → i < n → i ≢ u → s i ≡ t i) → howMany n s + one (t u) ≡ howMany n t + one (s u)
+  pub many-but-one : (n u : ℕ) → u < n → ((i : ℕ) → i < n → i ≢ u → s i ≡ t i) → howMany n s + asNumber (t u) ≡ howMany n t + asNumber (s u)
   unfolding howMany
   many-but-one zero u l h = omega arith
   many-but-one (suc n) u l h =
       ⊎-elim
-      (λ (b : u < n). omega (arith, many-but-one n u b (λ i k. h i (omega arith)), ap one (h n (omega arith) (omega arith))))
+      (λ (b : u < n). omega (arith, many-but-one n u b (λ i k. h i (omega arith)), ap asNumber (h n (omega arith) (omega arith))))
       (λ (b : n ≤ u).
       let e : u ≡ n = omega arith in
       rw e (omega (arith, many-same n (λ i k. sym (h i (omega arith) (omega arith))))))
@@ -219,14 +219,14 @@ module _ (t s : ℕ → Bool) where
   many-fewer zero u l a b h = omega arith
   many-fewer (suc n) u l a b h =
       ⊎-elim
-      (λ (m : u < n). omega (arith, many-fewer n u m a b (λ i k. h i (omega arith)), one-mono (t n) (s n) (h n (omega arith))))
+      (λ (m : u < n). omega (arith, many-fewer n u m a b (λ i k. h i (omega arith)), number-mono (t n) (s n) (h n (omega arith))))
       (λ (m : n ≤ u).
       let e : u ≡ n = omega arith in
-      omega (arith, ap one (rw e at a), ap one (rw e at b), many-mono n (λ i k. h i (omega arith))))
+      omega (arith, ap asNumber (rw e at a), ap asNumber (rw e at b), many-mono n (λ i k. h i (omega arith))))
       (order u n)
 
 -- each that passes r passes exactly one of t and s
-pub many-add : (t s r : ℕ → Bool) (n : ℕ) → ((i : ℕ) → i < n → one (r i) ≡ one (t i) + one (s i)) → howMany n r ≡ howMany n t + howMany n s
+pub many-add : (t s r : ℕ → Bool) (n : ℕ) → ((i : ℕ) → i < n → asNumber (r i) ≡ asNumber (t i) + asNumber (s i)) → howMany n r ≡ howMany n t + howMany n s
 unfolding howMany
 many-add t s r zero h = refl
 many-add t s r (suc n) h = omega (arith, h n (omega arith), many-add t s r n (λ i l. h i (omega arith)))

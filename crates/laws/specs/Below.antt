@@ -14,14 +14,14 @@ some zero test = false
 some (suc n) test = some n test || test n
 
 -- 1 for yes, 0 for no
-abbrev pub one : Bool → ℕ
-one true = 1
-one false = 0
+abbrev pub asNumber : Bool → ℕ
+asNumber true = 1
+asNumber false = 0
 
 -- how many numbers below n pass
 unfoldable pub howMany : ℕ → (ℕ → Bool) → ℕ
 howMany zero test = 0
-howMany (suc n) test = howMany n test + one (test n)
+howMany (suc n) test = howMany n test + asNumber (test n)
 
 -- the first number below n that passes; n if none does
 unfoldable pub firstWhere : ℕ → (ℕ → Bool) → ℕ

@@ -9,7 +9,7 @@ use native.Mathlib.Decide.{ℕ-discrete}
 use lib.Dec.{eqb}
 use borrow.Author.Tests.{eqb-true, eq-eqb, ne-eqb}
 use Rattle.laws.proofs.Tests.{and-left, and-right, and-both, and-false, or-cases, or-left, or-right}
-use Rattle.laws.specs.Below.{one, howMany}
+use Rattle.laws.specs.Below.{asNumber, howMany}
 use Rattle.laws.proofs.Below.{many-le, many-but-one, many-add, many-none, many-fewer}
 use Rattle.reach.specs.Number.{pairs, Decides, Number, Number²}
 use Rattle.reach.specs.Reach.{Reach, here, move, NearPair, Near, Ground}
@@ -49,12 +49,12 @@ Idle n seen done = (v : ℕ) → v < n → seen v ≡ true → done v ≡ true
 
 -- ---- the tests: taking u makes, for each near neighbour that is not done, one pair touched that was not
 
-split-both : (x a : Bool) → one (x && (a || true)) ≡ one (x && (a || false)) + one (x && not a)
+split-both : (x a : Bool) → asNumber (x && (a || true)) ≡ asNumber (x && (a || false)) + asNumber (x && not a)
 split-both true true = refl
 split-both true false = refl
 split-both false a = refl
 
-split-one : (x a c : Bool) → one (x && (true || c)) ≡ one (x && (false || a)) + one (x && not a)
+split-one : (x a c : Bool) → asNumber (x && (true || c)) ≡ asNumber (x && (false || a)) + asNumber (x && not a)
 split-one true true c = refl
 split-one true false c = refl
 split-one false a c = refl
@@ -71,7 +71,7 @@ module _ {n : ℕ} {near : ℕ → ℕ → Bool} (N : Near n near) (u : ℕ) (do
   touch-at l = omega (
     arith,
     touch-before u (omega arith) (omega arith),
-    ap (λ (b : Bool). one (b && not (done u))) (N .irreflexive u),
+    ap (λ (b : Bool). asNumber (b && not (done u))) (N .irreflexive u),
     many-add (λ a. touched near done a u) (unmet near done u) (λ a. touched near done′ a u) u
         (λ a p. rw (keep a (omega arith) (omega arith), gain, un, N .symmetric u a) (split-both (near a u) (done a))),
   )
@@ -85,7 +85,7 @@ module _ {n : ℕ} {near : ℕ → ℕ → Bool} (N : Near n near) (u : ℕ) (do
           → pairs (suc k) (touched near done′) ≡ pairs (suc k) (touched near done) + howMany (suc k) (unmet near done u)
       go (yes e) ih = rw e (touch-at (omega arith))
       go (no e) ih =
-          let d : one (touched near done′ u k) ≡ one (touched near done u k) + one (unmet near done u k) =
+          let d : asNumber (touched near done′ u k) ≡ asNumber (touched near done u k) + asNumber (unmet near done u k) =
           rw (gain, un) (split-one (near u k) (done k) (done′ k)) in
           omega (
             arith,
@@ -139,7 +139,7 @@ module _ {n : ℕ} {near : ℕ → ℕ → Bool} {start : ℕ} (F : Ground n nea
       sound = λ v l h. sound v l (or-cases (near u v) (seen v) (sym (st .seen-now v l) ∙ h));
       within = λ v l h. still-seen v l (within v l (or-cases (eqb v u) (done v) (sym (st .done-now v l) ∙ h)));
       closed = λ a b l h m. closed a b l m (or-cases (eqb a u) (done a) (sym (st .done-now a l) ∙ h));
-      taken = omega (arith, i .taken, many-but-one done done′ n u (st .below) keep, ap one gain, ap one (st .not-done));
+      taken = omega (arith, i .taken, many-but-one done done′ n u (st .below) keep, ap asNumber gain, ap asNumber (st .not-done));
     }
       where
         sound : (v : ℕ) → v < n → (near u v ≡ true) ⊎ (seen v ≡ true) → Reach near start v

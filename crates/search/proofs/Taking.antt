@@ -9,7 +9,7 @@ use native.Mathlib.Decide.{ℕ-discrete}
 use lib.Dec.{eqb}
 use lib.ListN.{length, set}
 use lib.Seq.{getD-set-other, set-getD}
-use Rattle.laws.specs.Below.{one, howMany}
+use Rattle.laws.specs.Below.{asNumber, howMany}
 use Rattle.laws.proofs.Below.{many-same}
 use Rattle.reach.specs.Reach.{Near}
 use Rattle.reach.specs.Turns.{at, doneIn}
@@ -41,7 +41,7 @@ module _ (p : Problem) (u w : ℕ) (s : State) where
   relax-mark true (suc (suc zero)) e h = refl
   relax-mark true (suc (suc (suc a))) e h = absurd (omega arith)
 
-  relax-tests : (c : Bool) → (relax c p u w s) .tests ≡ s .tests + one c
+  relax-tests : (c : Bool) → (relax c p u w s) .tests ≡ s .tests + asNumber c
   relax-tests true = store-tests (wins p s (via p s u w) w) w (via p s u w) (cost p s (via p s u w) w) s
   relax-tests false = omega arith
 
@@ -66,7 +66,7 @@ module _ (p : Problem) (u : ℕ) (s : State) where
   around-tests zero h = omega arith
   around-tests (suc k) h =
       let ih = around-tests k (λ v l. h v (omega arith)) in
-      let same : one (due p u k (around p u k s)) ≡ one (unmet (p .near) (doneIn (s .mark)) u k) =
+      let same : asNumber (due p u k (around p u k s)) ≡ asNumber (unmet (p .near) (doneIn (s .mark)) u k) =
       rw (around-mark k (λ v l. h v (omega arith)), turned-later (p .near) u (s .mark) k k (omega arith)) refl in
       omega (arith, relax-tests p u k (around p u k s) (due p u k (around p u k s)))
 

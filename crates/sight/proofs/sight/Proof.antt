@@ -5,11 +5,12 @@ use mathlib.Core.List.{[], _∷_}
 use Prim.Native.Nat.{ℕ, suc}
 use borrow.Author.Needs.{needs}
 use denote.Ref.{now}
+use Rattle.laws.specs.Below.{asNumber}
 use Rattle.board.specs.Board.{Board, board}
 use Rattle.board.specs.declared.Checked.{Checked}
 use Rattle.board.specs.Paper.{refusal, accepted, answer, legRows}
 use Rattle.board.specs.Paper as paper
-use Rattle.sight.specs.Paper.{asNumber, sightRow}
+use Rattle.sight.specs.Paper.{sightRow}
 use Rattle.board.proofs.Rows.{leg-sound, leg-first, leg-second, leg-accepted, leg-refusal}
 use Rattle.sight.proofs.sight.Statement.{statement}
 use Rattle.sight.proofs.sight.Tie as tie
