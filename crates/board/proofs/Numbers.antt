@@ -1,10 +1,10 @@
 -- Where a cell's byte lies, and what vertex numbers are. Assumes nothing.
 use mathlib.Core.Path.{_≡_, _∙_}
-use Prim.Native.Nat.{ℕ, _+_, _*_, _/_, _%_, _^_, _≤_, _<_}
+use Prim.Native.Nat.{ℕ, _+_, _*_, _^_, _≤_, _<_}
 use native.Mathlib.Nat.{mul-le-mul, mul-le-mul-right, le-trans, lt-of-le-of-lt, div-add-mod', mod-lt, mul-add-mod-self-right, mod-eq-of-lt, div-eq-of-lt-le, div-lt-iff-lt-mul}
 use native.Mathlib.Omega.{arith}
 use Rattle.board.specs.Limits.{side, vertexBits, mostVertices, vertices-fit}
-use Rattle.board.specs.Board.{Board, numberOf, columnOf, rowOf}
+use Rattle.board.specs.Board.{numberOf, columnOf, rowOf}
 
 pub cell-index : (w h x y : ℕ) → x < w → y < h → y * w + x < w * h
 cell-index w h x y hx hy = omega (arith, mul-le-mul-right w hy)
@@ -26,10 +26,6 @@ number-fits w x y hw hx hy = lt-of-le-of-lt (le-trans below wide) vertices-fit
 -- no board has more vertices than the largest
 pub vertices-few : (w h : ℕ) → w ≤ side → h ≤ side → (w + 1) * (h + 1) ≤ mostVertices
 vertices-few w h p q = let l : w + 1 ≤ side + 1 = omega arith in let m : h + 1 ≤ side + 1 = omega arith in mul-le-mul l m
-
--- its row's first number is no larger
-pub row-fits : (w x y : ℕ) → w ≤ side → x ≤ w → y ≤ side → y * (w + 1) < 2 ^ vertexBits
-row-fits w x y hw hx hy = omega (arith, number-fits w x y hw hx hy)
 
 -- ---- number, column and row undo each other
 

@@ -1,15 +1,15 @@
 -- The rows 1 to 5: which one a request gets, and what an accepted one is known to be. Assumes nothing.
-use mathlib.Core.Path.{_≡_, refl, sym, ap, _∙_}
+use mathlib.Core.Path.{_≡_, refl, sym}
 use mathlib.Core.Bool.{Bool, true, false, not, _&&_, cond}
-use mathlib.Core.List.{List, [], _∷_}
-use Prim.Native.Nat.{ℕ, zero, suc, _*_, _≤_, _<_}
+use mathlib.Core.List.{[], _∷_}
+use Prim.Native.Nat.{ℕ, suc, _*_, _≤_, _<_}
 use native.Mathlib.Nat.{mul-le-mul}
 use native.Mathlib.Omega.{arith}
 use types.Run.{OneOf, miss}
 use denote.Enum.Declared.{tagOf}
 use lib.Dec.{leb, ltb, eqb}
 use lib.ListN.{length}
-use borrow.Author.Tests.{not-true, not-false, leb-true, eqb-true, lt-ltb, le-ltb, eq-eqb, ne-eqb}
+use borrow.Author.Tests.{not-false, leb-true, eqb-true, lt-ltb, le-ltb, eq-eqb, ne-eqb}
 use Rattle.laws.proofs.Tests.{and-left, and-right, and-false}
 use Rattle.board.specs.declared.Checked.{Checked}
 use Rattle.board.proofs.Checked.{the-type}
@@ -58,14 +58,14 @@ cells-few w h p q = mul-le-mul (side-le w p) (side-le h q)
 
 -- ---- the rows as screens
 
--- any variant but the first is a refusal
-pub is-refusal : (r : Checked) → OneOf (1 ∷ 2 ∷ 3 ∷ 4 ∷ 5 ∷ []) (tagOf the-type r) → (n : ℕ) × (p : ℕ) × (handed r ≡ refusal (suc n) p)
+-- any variant but the first is a refusal 1 to 5
+pub is-refusal : (r : Checked) → OneOf (1 ∷ 2 ∷ 3 ∷ 4 ∷ 5 ∷ []) (tagOf the-type r) → (n : ℕ) × (p : ℕ) × (handed r ≡ refusal (suc n) p) × (n < 5)
 is-refusal Accepted k = absurd (miss (1 ∷ 2 ∷ 3 ∷ 4 ∷ 5 ∷ []) 0 tt k)
-is-refusal Side k = (0, 0, refl)
-is-refusal Count k = (1, 0, refl)
-is-refusal (Byte p) k = (2, p, refl)
-is-refusal First k = (3, 0, refl)
-is-refusal Second k = (4, 0, refl)
+is-refusal Side k = (0, 0, refl, omega arith)
+is-refusal Count k = (1, 0, refl, omega arith)
+is-refusal (Byte p) k = (2, p, refl, omega arith)
+is-refusal First k = (3, 0, refl, omega arith)
+is-refusal Second k = (4, 0, refl, omega arith)
 
 -- the three conditions
 abbrev badSides : Board → Bool
@@ -87,7 +87,7 @@ board-screen b =
     (and-then (λ (rest : Handed). cond (badCount b) (refusal 2 0) rest) (λ (rest : Handed). cond (badByte b) (refusal 3 (firstBad (b .cells))) rest)
     (one-row (badCount b) 1 0) (one-row (badByte b) 2 (firstBad (b .cells))))
 
-pub end-screen : (b : Board) (ax ay bx by : ℕ) → Screen (endRows b ax ay bx by)
+end-screen : (b : Board) (ax ay bx by : ℕ) → Screen (endRows b ax ay bx by)
 unfolding endRows
 end-screen b ax ay bx by =
     and-then (λ (rest : Handed). cond (not (isVertex b ax ay)) (refusal 4 0) rest) (λ (rest : Handed). cond (not (isVertex b bx by)) (refusal 5 0) rest)
@@ -102,7 +102,7 @@ passed : (x : Bool) (n p : ℕ) (rest : Handed) → cond x (refusal (suc n) p) r
 passed true n p rest e = absurd (no-acceptance n p e)
 passed false n p rest e = (refl, e)
 
-pub rows-sound : (b : Board) → boardRows b accepted ≡ accepted → Sound b
+rows-sound : (b : Board) → boardRows b accepted ≡ accepted → Sound b
 unfolding boardRows
 rows-sound b e =
     let t = passed (badSides b) 0 0 (twoRows b accepted) e in

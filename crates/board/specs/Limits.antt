@@ -1,8 +1,6 @@
 -- The numbers that a larger edition changes, each once: the largest side of a board and the width of a vertex number.
-use Prim.Native.Nat.{ℕ, _+_, _*_, _^_, _≤_, _<_}
-use native.Mathlib.Nat.{mul-le-mul, add-le-add, le-trans, lt-of-le-of-lt}
-use native.Mathlib.Omega.{arith}
-use lib.Dec.{lit<, lit≤}
+use Prim.Native.Nat.{ℕ, _+_, _*_, _^_, _<_}
+use lib.Dec.{lit<}
 
 -- a board's sides go from 1 to this
 abbrev pub side : ℕ

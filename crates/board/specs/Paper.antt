@@ -1,9 +1,9 @@
 -- What a call hands back, in document 01's numbers, and its rows 1 to 5.
 use Prim.Native.Nat.{ℕ, zero, suc, _*_}
-use mathlib.Core.Bool.{Bool, true, false, not, _&&_, cond}
+use mathlib.Core.Bool.{Bool, not, _&&_, cond}
 use mathlib.Core.List.{List, [], _∷_}
 use lib.Dec.{leb, ltb, eqb}
-use lib.ListN.{length}
+use lib.ListN.{length, getD}
 use lib.Ieee.{Float}
 use Rattle.board.specs.Limits.{side}
 use Rattle.board.specs.Board.{Board, isVertex}
@@ -16,6 +16,10 @@ pub record Handed : Type 0 where
   pub place : ℕ
   pub values : List ℕ
   pub floats : List Float
+
+-- the value at a place of what is handed back, 0 where there is none
+abbrev pub value : Handed → ℕ → ℕ
+value h k = getD (h .values) k 0
 
 -- a refusal carries its number and place and no other value
 abbrev pub refusal : ℕ → ℕ → Handed

@@ -7,7 +7,7 @@ use lib.IntN.{pos}
 use lib.ListN.{length, getD}
 use lib.Ieee.{Float, fin}
 use Rattle.board.specs.Board.{Board}
-use Rattle.board.specs.Paper.{Handed}
+use Rattle.board.specs.Paper.{Handed, value}
 use Rattle.job.specs.Paper.{boardRow, boardLeft}
 use Rattle.length.specs.Floats.{cellsOf}
 use Rattle.capi.specs.declared.Seen.{Seen}
@@ -20,10 +20,7 @@ use Rattle.router.specs.declared.Answer.{Answer}
 use Rattle.router.specs.declared.Answer.the-variants as route
 use Rattle.router.specs.Paper as router
 
--- the value at a place of an answer, 0 where there is none
-abbrev pub value : Handed → ℕ → ℕ
-value h k = getD (h .values) k 0
-
+-- the float at a place of an answer, 0 where there is none
 abbrev pub float : Handed → ℕ → Float
 float h k = getD (h .floats) k (fin false 0 (pos 0))
 

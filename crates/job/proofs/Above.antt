@@ -22,7 +22,7 @@ use Rattle.job.proofs.Grid.{cells-length, cells-bits}
 -- ---- an accepted job
 
 module _ {job : List ℕ} (a : Accepted job) where
-  pub job-sound : Sound (board (cellsOf job) (width job) (height job))
+  job-sound : Sound (board (cellsOf job) (width job) (height job))
   job-sound = record {
     wide = side-least (width job) (width-fits a);
     narrow = side-le (width job) (width-fits a);
@@ -31,19 +31,19 @@ module _ {job : List ℕ} (a : Accepted job) where
     full = cells-length job (width job * height job);
   }
 
-  pub job-board-passes : (rest : Handed) → boardRows (board (cellsOf job) (width job) (height job)) rest ≡ rest
+  job-board-passes : (rest : Handed) → boardRows (board (cellsOf job) (width job) (height job)) rest ≡ rest
   job-board-passes rest =
       rows-pass (board (cellsOf job) (width job) (height job)) rest (and-both (width-fits a) (height-fits a)) (cells-length job (width job * height job))
       (omega (arith, cells-bits job))
 
   module _ (index : ℕ) (l : index < nets job) where
     -- the net is read
-    pub job-net-there : netRow job index ≡ netOf job (netRecord job index)
+    job-net-there : netRow job index ≡ netOf job (netRecord job index)
     unfolding foundNet
     job-net-there = rows.rows-accepted job a (foundNet job index) ∙ rw (lt-leb (nets job) index l)
 
     -- and a route request between its ends is not refused
-    pub job-net-passes : (rest : Handed)
+    job-net-passes : (rest : Handed)
         → (let i : ℕ = netRecord job index in legRows (board (cellsOf job) (width job) (height job)) (byte job i 2) (byte job i 3) (byte job i 4) (byte job i 5) rest ≡ rest)
     job-net-passes rest =
         let i : ℕ = netRecord job index in

@@ -4,8 +4,7 @@ use mathlib.Core.Bool.{cond}
 use mathlib.Core.List.{List}
 use Prim.Native.Nat.{ℕ}
 use lib.Dec.{eqb}
-use lib.ListN.{getD}
-use Rattle.board.specs.Paper.{Handed}
+use Rattle.board.specs.Paper.{Handed, value}
 use Rattle.job.specs.declared.JobRefusal.{JobRefusal}
 use Rattle.job.specs.declared.JobRefusal.the-variants.{Long, Uneven, Order, Stray, Side, Keepout, End, Number, Late}
 use Rattle.job.specs.declared.BoardAnswer.{BoardAnswer}
@@ -26,9 +25,6 @@ refusal-from h =
     (cond (eqb (h .number) 16) (End (h .place)) (cond (eqb (h .number) 17) (Number (h .place)) (Late (h .place)))))))))
 
 -- and the answers
-value : Handed → ℕ → ℕ
-value h k = getD (h .values) k 0
-
 board-from : Handed → BoardAnswer
 board-from h =
     cond (eqb (h .number) 0) (board-read.Board (value h 0) (value h 1) (value h 2))
@@ -40,7 +36,7 @@ net-from h =
     (cond (eqb (h .number) 20) net-read.NoNet (net-read.Refused (refusal-from h)))
 
 board-back : (r : BoardAnswer) → board-from (handedBoard r) ≡ r
-unfolding board-from refusal-from value
+unfolding board-from refusal-from
 board-back (board-read.Board w h n) = refl
 board-back (board-read.Refused Long) = refl
 board-back (board-read.Refused Uneven) = refl
@@ -54,7 +50,7 @@ board-back (board-read.Refused (Late i)) = refl
 board-back board-read.Short = refl
 
 net-back : (r : NetAnswer) → net-from (handedNet r) ≡ r
-unfolding net-from refusal-from value
+unfolding net-from refusal-from
 net-back (net-read.Net n a b c d) = refl
 net-back (net-read.Refused Long) = refl
 net-back (net-read.Refused Uneven) = refl

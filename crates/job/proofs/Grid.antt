@@ -6,7 +6,7 @@ use mathlib.Core.Bool.{true, false, _&&_, cond}
 use mathlib.Core.List.{List, [], _∷_, _++_}
 use native.Mathlib.Nat.{div-add-mod', mod-lt, le-div-iff-mul-le}
 use native.Mathlib.Omega.{arith}
-use lib.Dec.{leb, ltb, eqb}
+use lib.Dec.{leb, ltb}
 use lib.ListN.{length, getD, drop, length-append, length-drop, List·getD-append}
 use lib.Seq.{ext-getD, getD-drop, getD-append-add, getD-at}
 use borrow.Author.Tests.{lt-ltb, le-ltb, le-leb, ne-eqb}
@@ -16,10 +16,10 @@ use Rattle.board.specs.Limits.{side}
 use Rattle.board.specs.Paper.{refusal, answer, firstBad}
 use Rattle.board.proofs.Rows.{side-least, cells-few}
 use Rattle.job.specs.declared.steps.Progress.{Progress}
-use Rattle.job.specs.Job.{records, byte, width, height, isKeepout, covers, inKeepout, cellsUpTo, cellsOf, Accepted, nets}
+use Rattle.job.specs.Job.{records, byte, width, height, isKeepout, covers, inKeepout, cellsUpTo, cellsOf, Accepted, netBefore, nets}
 use Rattle.job.specs.Paper.{BoardRead}
 use Rattle.job.specs.Steps.{told, readUpTo, Filled, Painted}
-use Rattle.job.proofs.Judging.{width-read, height-read, nets-read}
+use Rattle.job.proofs.Judging.{reads}
 use Rattle.job.proofs.Rows.{board-short, board-done}
 use Rattle.job.proofs.Accepted.{width-fits, height-fits, keepout-below}
 
@@ -34,7 +34,7 @@ module _ (job : List ℕ) where
   cells-length zero = refl
   cells-length (suc n) = length-append (cellsUpTo job n) (cell n ∷ []) ∙ omega (arith, cells-length n)
 
-  pub cells-at : (n k : ℕ) → k < n → getD (cellsUpTo job n) k 0 ≡ cell k
+  cells-at : (n k : ℕ) → k < n → getD (cellsUpTo job n) k 0 ≡ cell k
   unfolding cellsUpTo
   cells-at zero k l = absurd (omega arith)
   cells-at (suc n) k l =
@@ -63,7 +63,7 @@ cells-bits job = all-bits (cellsOf job) (λ (k : ℕ) (l : k < length (cellsOf j
 -- ---- painting gives them
 
 module _ {job : List ℕ} (a : Accepted job) where
-  pub wide : 0 < width job
+  wide : 0 < width job
   wide = side-least (width job) (width-fits a)
 
   -- no keepout reaches below the board
@@ -113,7 +113,7 @@ module _ {job : List ℕ} (a : Accepted job) where
     unfolding wanted
     same-length = simp (length-append, length-drop) (omega (arith, p .long, f .long, cells-length job (width job * height job)))
 
-    pub cells-drawn : after ≡ cellsOf job ++ drop (width job * height job) before
+    cells-drawn : after ≡ cellsOf job ++ drop (width job * height job) before
     unfolding wanted
     cells-drawn =
         ext-getD 0 after wanted same-length (λ (k : ℕ) (l : k < length after). ⊎-elim (on k) (beyond k) (order k (width job * height job)))
@@ -121,17 +121,14 @@ module _ {job : List ℕ} (a : Accepted job) where
 -- ---- the board read, from what the whole job says
 
 module _ {job : List ℕ} (a : Accepted job) (p : Progress) (known : told p ≡ readUpTo job (records job)) where
-  some-records : eqb (records job) 0 ≡ false
-  some-records = ne-eqb (records job) 0 (λ z. omega (arith, a .begun))
+  whole-reads : (p .width ≡ width job) × (p .height ≡ height job) × (p .last ≡ netBefore job (records job)) × (p .nets ≡ nets job)
+  whole-reads = reads job p (records job) (ne-eqb (records job) 0 (λ z. omega (arith, a .begun))) known
 
   pub whole-width : p .width ≡ width job
-  whole-width = width-read job p (records job) some-records known
+  whole-width = whole-reads .0
 
   whole-height : p .height ≡ height job
-  whole-height = height-read job p (records job) some-records known
-
-  whole-nets : p .nets ≡ nets job
-  whole-nets = nets-read job p (records job) some-records known
+  whole-height = whole-reads .1
 
   pub whole-few : p .width * p .height ≤ side * side
   whole-few = rw (whole-width, whole-height) (cells-few (width job) (height job) (width-fits a) (height-fits a))
@@ -146,4 +143,4 @@ module _ {job : List ℕ} (a : Accepted job) (p : Progress) (known : told p ≡ 
       → Painted (p .width) (inKeepout job) mid left → BoardRead job lent (answer (p .width ∷ p .height ∷ p .nets ∷ [])) left
   whole-done {lent} l f q =
       let room : width job * height job ≤ length lent = rw (whole-width, whole-height) at l in
-      rw (cells-drawn a room (rw (whole-width, whole-height) at f) (rw whole-width at q), whole-width, whole-height, whole-nets) (board-done job lent a room)
+      rw (cells-drawn a room (rw (whole-width, whole-height) at f) (rw whole-width at q), whole-width, whole-height, whole-reads .3) (board-done job lent a room)

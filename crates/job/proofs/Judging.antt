@@ -8,8 +8,8 @@ use native.Mathlib.Omega.{arith}
 use native.Mathlib.Numerals.{add-one}
 use types.Run.{OneOf, miss}
 use denote.Enum.Declared.{tagOf}
-use lib.Dec.{eqb}
-use borrow.Author.Tests.{eqb-false, ne-eqb}
+use lib.Dec.{eqb, eqb·suc-zero}
+use borrow.Author.Tests.{eqb-false}
 use Rattle.laws.specs.Below.{some, howMany}
 use Rattle.laws.proofs.Tests.{bool-cases}
 use Rattle.laws.proofs.Below.{many-le, some-many}
@@ -21,7 +21,7 @@ use Rattle.job.specs.declared.steps.Progress.{Progress}
 use Rattle.job.specs.declared.steps.Step.{Step}
 use Rattle.job.specs.declared.steps.Step.the-variants.{Next, Refused}
 use Rattle.job.proofs.steps.Step.{the-type}
-use Rattle.job.specs.Job.{records, byte, width, height, isBoard, isKeepout, isNet, isMisplaced, isLate, isOversized, isBadKeepout, netBefore, isUnordered, isEndOff, fault, isFaulty}
+use Rattle.job.specs.Job.{byte, width, height, isBoard, isKeepout, isNet, isMisplaced, isLate, isOversized, isBadKeepout, netBefore, isUnordered, isEndOff, fault, isFaulty}
 use Rattle.job.specs.Paper.{handedRefusal}
 use Rattle.job.specs.Steps.{told, readUpTo, handedStep, stepRow, boardStep, keepoutStep, netStep}
 use Rattle.job.proofs.Says.{isStray, Says, stray, board, keepout, net}
@@ -51,14 +51,11 @@ module _ (job : List ℕ) (i : ℕ) where
 
 -- ---- each type of record
 
-later : (i : ℕ) → eqb (suc i) 0 ≡ false
-later i = ne-eqb (suc i) 0 (λ (e : suc i ≡ 0). omega arith)
-
 module _ (job : List ℕ) where
   board-at : (i : ℕ) → isStray job i ≡ false → byte job i 0 ≡ 1 → stepRow job i ≡ boardStep i (byte job i 2) (byte job i 3)
   unfolding isMisplaced isLate isOversized boardStep readUpTo netBefore howMany
   board-at zero e t = by-tests job 0 ∙ rw (e, t)
-  board-at (suc i) e t = by-tests job (suc i) ∙ rw (e, t, later i)
+  board-at (suc i) e t = by-tests job (suc i) ∙ rw (e, t, eqb·suc-zero i)
 
   -- what was read before a later record, number by number
   module _ (p : Progress) (i : ℕ) (some : eqb i 0 ≡ false) (known : told p ≡ readUpTo job i) where
@@ -66,56 +63,25 @@ module _ (job : List ℕ) where
     unfolding readUpTo
     four = known ∙ rw some
 
-    pub width-read : p .width ≡ width job
-    width-read = cc four
-
-    pub height-read : p .height ≡ height job
-    height-read = cc four
-
-    last-read : p .last ≡ netBefore job i
-    last-read = cc four
-
-    pub nets-read : p .nets ≡ howMany i (isNet job)
-    nets-read = cc four
+    pub reads : (p .width ≡ width job) × (p .height ≡ height job) × (p .last ≡ netBefore job i) × (p .nets ≡ howMany i (isNet job))
+    reads = (cc four, cc four, cc four, cc four)
 
   keepout-at : (p : Progress) (i : ℕ) → told p ≡ readUpTo job i → isStray job i ≡ false → byte job i 0 ≡ 2
       → stepRow job i ≡ keepoutStep p i (byte job i 2) (byte job i 3) (byte job i 4) (byte job i 5)
   unfolding isMisplaced isLate isBadKeepout keepoutStep readUpTo netBefore howMany
   keepout-at p zero known e t = by-tests job 0 ∙ rw (e, t)
   keepout-at p (suc i) known e t =
-      by-tests job (suc i)
-      ∙ rw (
-        e,
-        some-many (isNet job) (suc i),
-        width-read p (suc i) (later i) known,
-        height-read p (suc i) (later i) known,
-        last-read p (suc i) (later i) known,
-        nets-read p (suc i) (later i) known,
-        t,
-        later i,
-        later (suc i),
-        none-more,
-      )
-    where
-      none-more : howMany (suc i) (isNet job) + 0 ≡ howMany (suc i) (isNet job)
-      none-more = omega arith
+      let (w, h, l, n) = reads p (suc i) (eqb·suc-zero i) known in
+      let none-more : howMany (suc i) (isNet job) + 0 ≡ howMany (suc i) (isNet job) = omega arith in
+      by-tests job (suc i) ∙ rw (e, some-many (isNet job) (suc i), w, h, l, n, t, eqb·suc-zero i, eqb·suc-zero (suc i), none-more)
 
   net-at : (p : Progress) (i : ℕ) → told p ≡ readUpTo job i → isStray job i ≡ false → byte job i 0 ≡ 3
       → stepRow job i ≡ netStep p i (byte job i 1) (byte job i 2) (byte job i 3) (byte job i 4) (byte job i 5)
   unfolding isMisplaced isLate isUnordered isEndOff netStep readUpTo netBefore howMany
   net-at p zero known e t = by-tests job 0 ∙ rw (e, t)
   net-at p (suc i) known e t =
-      by-tests job (suc i)
-      ∙ rw (
-        e,
-        width-read p (suc i) (later i) known,
-        height-read p (suc i) (later i) known,
-        last-read p (suc i) (later i) known,
-        nets-read p (suc i) (later i) known,
-        t,
-        later i,
-        later (suc i),
-      )
+      let (w, h, l, n) = reads p (suc i) (eqb·suc-zero i) known in
+      by-tests job (suc i) ∙ rw (e, w, h, l, n, t, eqb·suc-zero i, eqb·suc-zero (suc i))
 
 -- ---- the same by what the record says
 
@@ -140,17 +106,20 @@ module _ (job : List ℕ) (i : ℕ) where
 
 -- ---- going on, and stopping
 
--- a refusal has a number above 0
+-- a refusal has a number above 0, and a place
+pub is-refusal : (r : JobRefusal) → (n : ℕ) × (p : ℕ) × (handedRefusal r ≡ refusal (suc n) p)
+is-refusal why.Long = (9, 0, refl)
+is-refusal why.Uneven = (10, 0, refl)
+is-refusal (why.Order i) = (11, i, refl)
+is-refusal (why.Stray i) = (12, i, refl)
+is-refusal (why.Side i) = (13, i, refl)
+is-refusal (why.Keepout i) = (14, i, refl)
+is-refusal (why.End i) = (15, i, refl)
+is-refusal (why.Number i) = (16, i, refl)
+is-refusal (why.Late i) = (17, i, refl)
+
 pub refusal-numbered : (r : JobRefusal) → handedRefusal r .number ≡ 0 → ⊥
-refusal-numbered why.Long e = omega arith
-refusal-numbered why.Uneven e = omega arith
-refusal-numbered (why.Order i) e = omega arith
-refusal-numbered (why.Stray i) e = omega arith
-refusal-numbered (why.Side i) e = omega arith
-refusal-numbered (why.Keepout i) e = omega arith
-refusal-numbered (why.End i) e = omega arith
-refusal-numbered (why.Number i) e = omega arith
-refusal-numbered (why.Late i) e = omega arith
+refusal-numbered r e = let (n, p, f) = is-refusal r in omega (arith, ap (λ (h : Handed). h .number) f)
 
 module _ (job : List ℕ) (i : ℕ) where
   pub clean-next : (p : Progress) → answer (told p) ≡ stepRow job i → (isFaulty job i ≡ false) × (told p ≡ readUpTo job (i + 1))

@@ -30,13 +30,14 @@ below a x b l = rw (lt-leb a x l)
 above : (a x b : ℕ) → b ≤ x → between a x b ≡ false
 above a x b l = and-false (leb a x) (le-ltb x b l)
 
+-- nothing lies between a number and itself
+empty : (a x : ℕ) → between a x a ≡ false
+empty a x = ⊎-elim (λ (l : x < a). below a x a l) (λ (l : a ≤ x). above a x a l) (order x a)
+
 -- ---- entries one by one
 
 pub fill-none : (from value : ℕ) (l : List ℕ) → Filled from from value l l
-fill-none from value l = record { long = refl; entry = λ (k : ℕ). rw (empty k) }
-  where
-    empty : (k : ℕ) → between from k from ≡ false
-    empty k = ⊎-elim (λ (b : k < from). below from k from b) (λ (b : from ≤ k). above from k from b) (order k from)
+fill-none from value l = record { long = refl; entry = λ (k : ℕ). rw (empty from k) }
 
 pub fill-more : {from at value : ℕ} {before after : List ℕ} → Filled from at value before after → from ≤ at → at < length after
     → Filled from (at + 1) value before (set after at value)
@@ -65,10 +66,7 @@ fill-more {from} {at} {value} {before} {after} f l u = record {
 -- ---- a rectangle row by row
 
 pub lines-none : (w left top right : ℕ) (l : List ℕ) → Painted w (inside left top right top) l l
-lines-none w left top right l = record { long = refl; cell = λ (x y : ℕ) (b : x < w). rw (and-false (between left x right) (empty y)) }
-  where
-    empty : (y : ℕ) → between top y top ≡ false
-    empty y = ⊎-elim (λ (b : y < top). below top y top b) (λ (b : top ≤ y). above top y top b) (order y top)
+lines-none w left top right l = record { long = refl; cell = λ (x y : ℕ) (b : x < w). rw (and-false (between left x right) (empty top y)) }
 
 module _ {w left top right y : ℕ} {before mid after : List ℕ} (p : Painted w (inside left top right y) before mid)
     (f : Filled (y * w + left) (y * w + right) 1 mid after) (lr : left ≤ right) (rest : right ≤ w) (ty : top ≤ y) where

@@ -113,7 +113,7 @@ module _ (job : List ℕ) where
   settled false false false false f p x y z n = absurd (n z)
 
   -- a job that is refused is refused the same, whatever else is asked
-  pub rows-refused : (x y : Handed) → x .number ≡ 0 → (jobRows job x .number ≡ 0 → ⊥) → jobRows job y ≡ jobRows job x
+  rows-refused : (x y : Handed) → x .number ≡ 0 → (jobRows job x .number ≡ 0 → ⊥) → jobRows job y ≡ jobRows job x
   unfolding jobRows
   rows-refused x y z n =
       settled (ltb longestJob (length job)) (not (eqb (length job % recordBytes) 0)) (eqb (records job) 0) (ltb (firstFault job) (records job))

@@ -1,13 +1,13 @@
 -- What a record says, by its type, and which type it is if it says so. Assumes nothing.
 use Prim.Native.Nat.{ℕ, _≤_, _<_}
-use mathlib.Core.Path.{_≡_, refl, _∙_}
+use mathlib.Core.Path.{_≡_, _∙_}
 use mathlib.Core.Logic.{⊎-elim}
 use mathlib.Core.List.{List}
-use mathlib.Core.Bool.{Bool, true, false, not, _||_, true≢false}
+use mathlib.Core.Bool.{Bool, true, false, not, _||_}
 use lib.Dec.{ltb}
 use borrow.Author.Tests.{eqb-true, ne-eqb, not-false, lt-ltb, le-ltb}
 use Rattle.laws.specs.Below.{firstWhere}
-use Rattle.laws.proofs.Tests.{bool-cases, and-false, or-right}
+use Rattle.laws.proofs.Tests.{or-neither, bool-cases, and-false, or-right}
 use Rattle.laws.proofs.Below.{some-first}
 use Rattle.job.specs.declared.records.Record.{Record}
 use Rattle.job.specs.declared.records.Record.the-variants.{Board, Keepout, Net, Stray}
@@ -27,16 +27,12 @@ pub data Says (job : List ℕ) (i : ℕ) : Record → Type 0 where
   net : isStray job i ≡ false → byte job i 0 ≡ 3
       → Says job i (Net (byte job i 1) (byte job i 2) (byte job i 3) (byte job i 4) (byte job i 5))
 
-or-neither : (a b : Bool) → (a || b) ≡ false → a ≡ false
-or-neither true b h = absurd (true≢false h)
-or-neither false b h = refl
-
 -- a record that is not stray has one of the three types
 typed : (b k n : Bool) → not (b || (k || n)) ≡ false → b ≡ false → k ≡ false → n ≡ true
 typed b k n h p q = rw (p, q) at (not-false (b || (k || n)) h)
 
 module _ (job : List ℕ) (i : ℕ) where
-  pub says : Says job i (recordAt job i)
+  says : Says job i (recordAt job i)
   unfolding recordAt isUnknown
   says =
       ⊎-elim
@@ -48,7 +44,7 @@ module _ (job : List ℕ) (i : ℕ) where
       ⊎-elim
       (λ (k : isKeepout job i ≡ true). rw (e, b, k) (keepout e (eqb-true (byte job i 0) 2 k)))
       (λ (k : isKeepout job i ≡ false).
-      let n = typed (isBoard job i) (isKeepout job i) (isNet job i) (or-neither (isUnknown job i) (isUntidy job i) e) b k in
+      let n = typed (isBoard job i) (isKeepout job i) (isNet job i) (or-neither (isUnknown job i) (isUntidy job i) e .0) b k in
       rw (e, b, k) (net e (eqb-true (byte job i 0) 3 n)))
       (bool-cases (isKeepout job i)))
       (bool-cases (isBoard job i)))

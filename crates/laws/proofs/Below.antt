@@ -1,14 +1,24 @@
--- Tests over the numbers below n: what `some`, `howMany` and `firstWhere` answer. Assumes nothing.
+-- Tests over the numbers below n: what `every`, `some`, `howMany` and `firstWhere` answer. Assumes nothing.
 use Prim.Native.Nat.{ℕ, zero, suc, _+_, _≤_, _<_}
-use mathlib.Core.Path.{_≡_, refl, sym, _∙_}
-use mathlib.Core.Logic.{⊎-elim}
+use mathlib.Core.Path.{_≡_, refl, sym, ap, ap₂, _∙_}
+use mathlib.Core.Logic.{_≢_, ⊎-elim}
 use mathlib.Core.Bool.{Bool, true, false, _&&_, true≢false}
 use native.Mathlib.Numerals.{add-one}
 use native.Mathlib.Omega.{arith}
 use lib.Dec.{ltb, eqb}
 use borrow.Author.Tests.{lt-ltb, le-ltb, eq-eqb, eqb-true, eqb-false}
-use Rattle.laws.specs.Below.{some, howMany, firstWhere}
+use Rattle.laws.specs.Below.{every, some, asNumber, howMany, firstWhere}
 use Rattle.laws.proofs.Tests.{order, bool-cases, and-left, and-right, and-both, false-of, or-left, or-right, or-false}
+
+-- ---- one test
+
+number-le : (b : Bool) → asNumber b ≤ 1
+number-le true = omega arith
+number-le false = omega arith
+
+number-mono : (b c : Bool) → (b ≡ true → c ≡ true) → asNumber b ≤ asNumber c
+number-mono true c h = rw (h refl) (omega arith)
+number-mono false c h = omega arith
 
 module _ (t : ℕ → Bool) where
   -- ---- the first that passes, from n to n + 1
@@ -93,9 +103,25 @@ module _ (t : ℕ → Bool) where
       (λ (g : n ≤ firstWhere n t). omega (arith, first-le n))
       (order (firstWhere n t) n)
 
+  -- ---- every
+
+  pub every-at : (n : ℕ) → every n t ≡ true → (i : ℕ) → i < n → t i ≡ true
+  unfolding every
+  every-at zero h i l = absurd (omega arith)
+  every-at (suc n) h i l =
+      ⊎-elim
+      (λ (b : i < n). every-at n (and-left (every n t) (t n) h) i b)
+      (λ (b : n ≤ i). let s : i ≡ n = omega arith in rw s (and-right (every n t) (t n) h))
+      (order i n)
+
+  pub every-of : (n : ℕ) → ((i : ℕ) → i < n → t i ≡ true) → every n t ≡ true
+  unfolding every
+  every-of zero f = refl
+  every-of (suc n) f = and-both (every-of n (λ (i : ℕ) (l : i < n). f i (omega arith))) (f n (omega arith))
+
   -- ---- some
 
-  pub some-at : (n i : ℕ) → i < n → t i ≡ true → some n t ≡ true
+  some-at : (n i : ℕ) → i < n → t i ≡ true → some n t ≡ true
   unfolding some
   some-at zero i l h = absurd (omega arith)
   some-at (suc n) i l h =
@@ -130,18 +156,19 @@ module _ (t : ℕ → Bool) where
   pub many-le : (n : ℕ) → howMany n t ≤ n
   unfolding howMany
   many-le zero = omega arith
-  many-le (suc n) =
-      ⊎-elim
-      (λ (h : t n ≡ true). rw h (omega (arith, many-le n)))
-      (λ (h : t n ≡ false). rw h (omega (arith, many-le n)))
-      (bool-cases (t n))
+  many-le (suc n) = omega (arith, many-le n, number-le (t n))
 
-  pub many-mono : (i n : ℕ) → i ≤ n → howMany i t ≤ howMany n t
+  pub many-none : (n : ℕ) → ((i : ℕ) → i < n → t i ≡ false) → howMany n t ≡ 0
   unfolding howMany
-  many-mono i zero l = let s : i ≡ 0 = omega arith in rw s (omega arith)
-  many-mono i (suc n) l =
+  many-none zero f = refl
+  many-none (suc n) f = omega (arith, ap asNumber (f n (omega arith)), many-none n (λ (i : ℕ) (l : i < n). f i (omega arith)))
+
+  many-grow : (i n : ℕ) → i ≤ n → howMany i t ≤ howMany n t
+  unfolding howMany
+  many-grow i zero l = let s : i ≡ 0 = omega arith in rw s (omega arith)
+  many-grow i (suc n) l =
       ⊎-elim
-      (λ (b : i < suc n). let m = many-mono i n (omega arith) in omega arith)
+      (λ (b : i < suc n). let m = many-grow i n (omega arith) in omega arith)
       (λ (b : suc n ≤ i). let s : i ≡ suc n = omega arith in rw s (omega arith))
       (order i (suc n))
 
@@ -155,6 +182,54 @@ module _ (t : ℕ → Bool) where
       let z : howMany n t + 0 ≡ howMany n t = omega arith in
       rw (h, or-false (some n t), z) (some-many n))
       (bool-cases (t n))
+
+-- ---- two tests
+
+module _ (t s : ℕ → Bool) where
+  pub every-same : (n : ℕ) → ((i : ℕ) → t i ≡ s i) → every n t ≡ every n s
+  unfolding every
+  every-same zero e = refl
+  every-same (suc n) e = rw (every-same n e, e n)
+
+  pub many-same : (n : ℕ) → ((i : ℕ) → i < n → t i ≡ s i) → howMany n t ≡ howMany n s
+  unfolding howMany
+  many-same zero h = refl
+  many-same (suc n) h = ap₂ _+_ (many-same n (λ i l. h i (omega arith))) (ap asNumber (h n (omega arith)))
+
+  pub many-mono : (n : ℕ) → ((i : ℕ) → i < n → t i ≡ true → s i ≡ true) → howMany n t ≤ howMany n s
+  unfolding howMany
+  many-mono zero h = omega arith
+  many-mono (suc n) h = omega (arith, number-mono (t n) (s n) (h n (omega arith)), many-mono n (λ i l. h i (omega arith)))
+
+  -- they differ at most at u
+  pub many-but-one : (n u : ℕ) → u < n → ((i : ℕ) → i < n → i ≢ u → s i ≡ t i) → howMany n s + asNumber (t u) ≡ howMany n t + asNumber (s u)
+  unfolding howMany
+  many-but-one zero u l h = omega arith
+  many-but-one (suc n) u l h =
+      ⊎-elim
+      (λ (b : u < n). omega (arith, many-but-one n u b (λ i k. h i (omega arith)), ap asNumber (h n (omega arith) (omega arith))))
+      (λ (b : n ≤ u).
+      let e : u ≡ n = omega arith in
+      rw e (omega (arith, many-same n (λ i k. sym (h i (omega arith) (omega arith))))))
+      (order u n)
+
+  -- whatever passes t passes s, and u passes s alone
+  pub many-fewer : (n u : ℕ) → u < n → t u ≡ false → s u ≡ true → ((i : ℕ) → i < n → t i ≡ true → s i ≡ true) → howMany n t < howMany n s
+  unfolding howMany
+  many-fewer zero u l a b h = omega arith
+  many-fewer (suc n) u l a b h =
+      ⊎-elim
+      (λ (m : u < n). omega (arith, many-fewer n u m a b (λ i k. h i (omega arith)), number-mono (t n) (s n) (h n (omega arith))))
+      (λ (m : n ≤ u).
+      let e : u ≡ n = omega arith in
+      omega (arith, ap asNumber (rw e at a), ap asNumber (rw e at b), many-mono n (λ i k. h i (omega arith))))
+      (order u n)
+
+-- each that passes r passes exactly one of t and s
+pub many-add : (t s r : ℕ → Bool) (n : ℕ) → ((i : ℕ) → i < n → asNumber (r i) ≡ asNumber (t i) + asNumber (s i)) → howMany n r ≡ howMany n t + howMany n s
+unfolding howMany
+many-add t s r zero h = refl
+many-add t s r (suc n) h = omega (arith, h n (omega arith), many-add t s r n (λ i l. h i (omega arith)))
 
 -- ---- the one with an index: it passes, and as many as the index do before it
 
@@ -176,10 +251,10 @@ module _ (t : ℕ → Bool) where
       others : (j : ℕ) → j < i → indexed (howMany i t) j ≡ false
       others j b =
           false-of (indexed (howMany i t) j) (λ (e : indexed (howMany i t) j ≡ true).
-          omega (arith, many-pass t j (indexed-passes (howMany i t) j e), indexed-index (howMany i t) j e, many-mono t (j + 1) i (omega arith)))
+          omega (arith, many-pass t j (indexed-passes (howMany i t) j e), indexed-index (howMany i t) j e, many-grow t (j + 1) i (omega arith)))
 
   pub many-above : (n i : ℕ) → i < n → t i ≡ true → howMany i t < howMany n t
-  many-above n i l h = omega (arith, many-pass t i h, many-mono t (i + 1) n (omega arith))
+  many-above n i l h = omega (arith, many-pass t i h, many-grow t (i + 1) n (omega arith))
 
   -- and there is one for each index below how many there are
   unindexed : (k n : ℕ) → ((j : ℕ) → j < n → indexed k j ≡ false) → howMany n t ≤ k
@@ -203,6 +278,3 @@ module _ (t : ℕ → Bool) where
   module _ (n k : ℕ) (l : k < howMany n t) where
     pub indexed-does-pass : t (firstWhere n (indexed k)) ≡ true
     indexed-does-pass = indexed-passes k (firstWhere n (indexed k)) (first-passes (indexed k) n (indexed-below n k l))
-
-    pub indexed-counts : howMany (firstWhere n (indexed k)) t ≡ k
-    indexed-counts = indexed-index k (firstWhere n (indexed k)) (first-passes (indexed k) n (indexed-below n k l))

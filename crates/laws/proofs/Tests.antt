@@ -1,10 +1,11 @@
 -- What tests say: `not`, `&&`, `||`, and two numbers in order. Assumes nothing.
-use mathlib.Core.Path.{_≡_, refl, sym}
+use mathlib.Core.Path.{_≡_, refl, sym, _∙_}
 use mathlib.Core.Logic.{_⊎_, inl, inr}
 use mathlib.Core.Bool.{Bool, true, false, not, _&&_, _||_, false≢true, true≢false}
 use Prim.Native.Nat.{ℕ, _≤_, _<_}
 use native.Mathlib.Decide.{decLt}
 use native.Mathlib.Omega.{arith}
+use borrow.Author.Tests.{not-true, not-false}
 
 pub order : (a b : ℕ) → (a < b) ⊎ (b ≤ a)
 order a b = elim (decLt a b) [ yes h ↦ inl h | no n ↦ inr (omega arith) ]
@@ -39,13 +40,13 @@ pub or-right : (a : Bool) {b : Bool} → b ≡ true → (a || b) ≡ true
 or-right true p = refl
 or-right false p = p
 
+pub or-neither : (a b : Bool) → (a || b) ≡ false → (a ≡ false) × (b ≡ false)
+or-neither true b h = absurd (true≢false h)
+or-neither false b h = (refl, h)
+
 pub or-false : (a : Bool) → (a || false) ≡ a
 or-false true = refl
 or-false false = refl
-
-pub true-of : (a : Bool) → (a ≡ false → ⊥) → a ≡ true
-true-of true f = refl
-true-of false f = absurd (f refl)
 
 pub false-of : (a : Bool) → (a ≡ true → ⊥) → a ≡ false
 false-of true f = absurd (f refl)
@@ -59,6 +60,13 @@ pub not-both : (a b : Bool) → not (a && b) ≡ true → a ≡ true → b ≡ t
 not-both true true h p q = false≢true h
 not-both true false h p q = false≢true q
 not-both false b h p q = false≢true p
+
+-- a call answered r for the test t: what a branch on `!r` says of t
+pub answered-no : {r t : Bool} → r ≡ t → not r ≡ true → t ≡ false
+answered-no e h = sym e ∙ not-true _ h
+
+pub answered-yes : {r t : Bool} → r ≡ t → not r ≡ false → t ≡ true
+answered-yes e h = sym e ∙ not-false _ h
 
 -- two tests with the same yes are the same
 pub same-test : (a b : Bool) → (a ≡ true → b ≡ true) → (b ≡ true → a ≡ true) → a ≡ b

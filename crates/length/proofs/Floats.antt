@@ -5,14 +5,13 @@ use Prim.Native.Nat.{ℕ, zero, suc, _+_, _*_, _^_, _≤_, _<_}
 use native.Mathlib.Nat.{mul-comm, mul-assoc, mul-left-comm, mul-pos, le-trans, le-of-eq, lt-of-lt-of-le, mul-one, one-mul, zero-lt-suc, mul-lt-mul-of-pos-right, zero-mul}
 use native.Mathlib.Omega.{arith}
 use lib.IntN.{pos}
-use lib.Dec.{T, lit<, lit≤, eqb, ltb, le→leb}
+use lib.Dec.{T, lit<, lit≤, eqb·suc-zero, ltb, le→leb}
 use lib.Pow.{pow-pos}
 use lib.Ieee.{Float, nan, inf, fin, Format, binary64, up, down, prec, emax, low, round, div, neg, ofInt, le, units, odd, unlike, inFloat}
 use lib.Ieee.Fits.{up-pos, down-pos}
 use lib.Ieee.Exact.{HasValue, round-exact}
 use lib.Ieee.Scale.{round-same}
 use lib.Ieee.Order.{round-mono}
-use borrow.Author.Tests.{ne-eqb}
 use Rattle.length.specs.Units.{unitsPerCell}
 use Rattle.length.specs.Floats.{cellsOf, quotient, magnitude}
 
@@ -41,9 +40,6 @@ unlike-false false = refl
 no-zero : (b : ℕ) → 0 < b → b ≡ 0 → ⊥
 no-zero b h e = omega arith
 
-suc-not : (n : ℕ) → eqb (suc n) 0 ≡ false
-suc-not n = ne-eqb (suc n) 0 (λ e. no-zero (suc n) (zero-lt-suc n) e)
-
 div-values : (x y : Float) (s : Bool) (a b : ℕ) → 0 < b → HasValue x s a 1 → HasValue y false b 1 → div binary64 x y ≡ round binary64 s a b
 unfolding div
 div-values nan y s a b B p q = absurd p
@@ -54,7 +50,7 @@ div-values (fin t m e) (fin true n d) s a b B p q = absurd (true≢false (q .0))
 div-values (fin t m e) (fin false zero d) s a b B p q =
     absurd (no-zero (b * down d) (mul-pos B (down-pos d)) (sym (q .1) ∙ ap (λ (z : ℕ). z * 1) (zero-mul (up d))))
 div-values (fin t m e) (fin false (suc n) d) s a b B p q =
-    rw (suc-not n, unlike-false t, p .0)
+    rw (eqb·suc-zero n, unlike-false t, p .0)
     (round-same binary64 s (m * up e * down d) (suc n * up d * down e) a b (mul-pos (mul-pos (zero-lt-suc n) (up-pos d)) (down-pos e)) B
     (cross (m * up e) (suc n * up d) a b (down e) (down d) (p .1) (q .1)))
 

@@ -1,8 +1,8 @@
 -- Differences: of two coordinates, and as a signed number of 32 bits. Assumes nothing.
 use mathlib.Core.Path.{_≡_, refl, sym, ap, _∙_, subst}
 use mathlib.Core.Logic.{⊎-elim}
-use mathlib.Core.Bool.{Bool, true, false, true≢false}
-use Prim.Native.Nat.{ℕ, suc, _+_, _*_, _-_, _≤_, _<_, _^_}
+use mathlib.Core.Bool.{true, false, true≢false}
+use Prim.Native.Nat.{ℕ, suc, _+_, _*_, _-_, _≤_, _<_}
 use native.Mathlib.Nat.{mul-le-mul}
 use native.Mathlib.Omega.{arith}
 use lib.IntN.{ℤ, pos, negsuc, natAbs, _-ℤ_, +ℤ-idl}
@@ -62,7 +62,7 @@ module _ (d : ℤ) (f : SFits w32 d) where
   pub narrow-fits : SFits w64 (toZ w32 (ofZ w32 d))
   narrow-fits = subst (λ (z : ℤ). SFits w64 z) (sym narrow) (wider d f)
 
-  pub wide : toZ w64 (ofZ w64 (toZ w32 (ofZ w32 d))) ≡ d
+  wide : toZ w64 (ofZ w64 (toZ w32 (ofZ w32 d))) ≡ d
   wide = toZ-ofZ w64 (toZ w32 (ofZ w32 d)) narrow-fits ∙ narrow
 
   -- a negative one is flipped, any other kept: both are the size

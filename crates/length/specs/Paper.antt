@@ -1,5 +1,5 @@
 -- What the calls of this crate hand back, in document 01's numbers.
-use Prim.Native.Nat.{ℕ, _+_, _*_}
+use Prim.Native.Nat.{_+_, _*_}
 use mathlib.Core.Bool.{_&&_, cond}
 use mathlib.Core.List.{[], _∷_}
 use lib.Dec.{eqb}

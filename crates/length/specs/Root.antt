@@ -1,6 +1,6 @@
 -- The whole square root: what it is, and a way to compute it.
 use Prim.Native.Nat.{ℕ, zero, suc, _+_, _*_, _/_, _≤_, _<_}
-use mathlib.Core.Bool.{Bool, true, false, cond}
+use mathlib.Core.Bool.{true, false, cond}
 use lib.Dec.{leb, eqb}
 
 -- u is the largest whole number whose square is at most n

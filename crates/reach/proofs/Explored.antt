@@ -4,12 +4,13 @@ use mathlib.Core.Path.{_≡_, refl}
 use mathlib.Core.Logic.{_⊎_, inl, inr}
 use mathlib.Core.Bool.{Bool, true, false, _&&_, cond}
 use mathlib.Core.List.{List}
-use Prim.Native.Nat.{ℕ, zero, suc, _+_, _<_}
+use Prim.Native.Nat.{ℕ, suc, _+_, _<_}
 use native.Mathlib.Omega.{arith}
-use native.Mathlib.Decide.{ℕ-discrete}
-use lib.Dec.{eqb}
+use lib.Dec.{ltb, eqb}
 use lib.ListN.{set, length-set, replicate, length-replicate, getD-replicate}
-use borrow.Author.Tests.{eqb-true, eqb-false}
+use borrow.Author.Tests.{ltb-true, ltb-false, eqb-true, eqb-false}
+use Rattle.laws.specs.Below.{firstWhere}
+use Rattle.laws.proofs.Below.{first-passes, first-before}
 use Rattle.laws.proofs.Tests.{bool-cases, and-left, and-right, and-both}
 use Rattle.reach.specs.Number.{pairs, Number, Number²}
 use Rattle.reach.specs.Reach.{Reach, move, NearPair, Ground}
@@ -17,10 +18,12 @@ use Rattle.reach.specs.Turns.{at, Choice, nothing, arrived, vertex, Mode
 use Rattle.reach.proofs.Marks.{taking, one-entry}
 use Rattle.reach.proofs.Turns.{Disciplined, Stopped, sane-start, turns-stopped, none-expansions}
 
--- an open vertex below k, the last one
-lastOpen : List ℕ → ℕ → Choice
-lastOpen m zero = nothing
-lastOpen m (suc k) = elim (eqb (at m k) 1) [ true ↦ vertex k | false ↦ lastOpen m k ]
+-- the first open vertex
+isOpen : List ℕ → ℕ → Bool
+isOpen m v = eqb (at m v) 1
+
+firstOpen : List ℕ → ℕ → Choice
+firstOpen m n = let r = firstWhere n (isOpen m) in elim (ltb r n) [ true ↦ vertex r | false ↦ nothing ]
 
 -- marks and expansions alone
 record Trip : Type 0 where
@@ -31,48 +34,45 @@ explorer : ℕ → (ℕ → ℕ → Bool) → Mode Trip
 explorer n near = record {
   mark = λ s. s .mark;
   expansions = λ s. s .expansions;
-  pick = λ s. lastOpen (s .mark) n;
+  pick = λ s. firstOpen (s .mark) n;
   stop = λ s. s;
   take = λ u s. record { mark = taking near n u (s .mark); expansions = s .expansions + 1 };
 }
 
--- the last open vertex is open, and there is none only if nothing is open
-record Last (m : List ℕ) (k : ℕ) (c : Choice) : Type 0 where
-  none : c ≡ nothing → (v : ℕ) → v < k → at m v ≡ 1 → ⊥
+-- it is open, and there is none only if nothing is open
+record First (m : List ℕ) (n : ℕ) (c : Choice) : Type 0 where
+  none : c ≡ nothing → (v : ℕ) → v < n → at m v ≡ 1 → ⊥
   never : c ≡ arrived → ⊥
-  some : (u : ℕ) → c ≡ vertex u → (u < k) × (at m u ≡ 1)
+  some : (u : ℕ) → c ≡ vertex u → (u < n) × (at m u ≡ 1)
 
-last-open : (m : List ℕ) (k : ℕ) → Last m k (lastOpen m k)
-unfolding lastOpen
-last-open m zero = record {
-  none = λ e v l. absurd (omega arith);
-  never = λ e. let z : _≡_ {A = ℕ} 0 1 = cc in omega arith;
-  some = λ u e. let z : _≡_ {A = ℕ} 0 1 = cc in absurd (omega arith);
-}
-last-open m (suc k) = go (eqb (at m k) 1) refl (last-open m k)
+first-open : (m : List ℕ) (n : ℕ) → First m n (firstOpen m n)
+unfolding firstOpen isOpen
+first-open m n = go (ltb (firstWhere n (isOpen m)) n) refl
   where
-    go : (x : Bool) → eqb (at m k) 1 ≡ x → Last m k (lastOpen m k) → Last m (suc k) (elim x [ true ↦ vertex k | false ↦ lastOpen m k ])
-    go true e L = record {
+    r : ℕ
+    r = firstWhere n (isOpen m)
+
+    go : (x : Bool) → ltb r n ≡ x → First m n (elim x [ true ↦ vertex r | false ↦ nothing ])
+    go true e = record {
       none = λ f v l. let z : _≡_ {A = ℕ} 0 1 = cc in absurd (omega arith);
       never = λ f. let z : _≡_ {A = ℕ} 0 1 = cc in omega arith;
-      some = λ u f. let z : k ≡ u = cc in (omega arith, rw (← z) (eqb-true (at m k) 1 e));
+      some = λ u f.
+          let z : r ≡ u = cc in
+          let l = ltb-true r n e in
+          (omega arith, rw (← z) (eqb-true (at m r) 1 (first-passes (isOpen m) n l)));
     }
-    go false e L = record {
-      none = λ f v l o. last f v l o (ℕ-discrete v k);
-      never = L .never;
-      some = λ u f. (omega (arith, L .some u f .0), L .some u f .1);
+    go false e = record {
+      none = λ f v l o. eqb-false (at m v) 1 (first-before (isOpen m) n v (omega (arith, ltb-false r n e))) o;
+      never = λ f. let z : _≡_ {A = ℕ} 0 1 = cc in omega arith;
+      some = λ u f. let z : _≡_ {A = ℕ} 0 1 = cc in absurd (omega arith);
     }
-      where
-        last : lastOpen m k ≡ nothing → (v : ℕ) → v < suc k → at m v ≡ 1 → Dec (v ≡ k) → ⊥
-        last f v l o (yes d) = eqb-false (at m k) 1 e (rw d at o)
-        last f v l o (no d) = L .none f v (omega arith) o
 
 explorer-disciplined : (n : ℕ) (near : ℕ → ℕ → Bool) → Disciplined (explorer n near) n near n
 unfolding explorer
 explorer-disciplined n near = record {
-  pick-nothing = λ s e. last-open (s .mark) n .none e;
-  pick-arrived = λ s e. absurd (last-open (s .mark) n .never e);
-  pick-vertex = λ u s e. let q = last-open (s .mark) n .some u e in (q .0, q .1, omega arith);
+  pick-nothing = λ s e. first-open (s .mark) n .none e;
+  pick-arrived = λ s e. absurd (first-open (s .mark) n .never e);
+  pick-vertex = λ u s e. let q = first-open (s .mark) n .some u e in (q .0, q .1, omega arith);
   take-mark = λ u s room l M. refl;
   take-expansions = λ u s. refl;
   stop-mark = λ s. refl;

@@ -73,7 +73,7 @@ module _ (near : ℕ → ℕ → Bool) (u : ℕ) (m : List ℕ) where
   turned-later (suc k) v l =
       opened-else (near u k && eqb (at (turned near u k m) k) 0) k (turned near u k m) v (omega arith) ∙ turned-later k v (omega arith)
 
-  pub turned-now : (k v : ℕ) → v < k → k ≤ length m → at (turned near u k m) v ≡ cond (near u v && eqb (at m v) 0) 1 (at m v)
+  turned-now : (k v : ℕ) → v < k → k ≤ length m → at (turned near u k m) v ≡ cond (near u v && eqb (at m v) 0) 1 (at m v)
   unfolding turned
   turned-now zero v l h = omega arith
   turned-now (suc k) v l h = go (ℕ-discrete v k) (λ l′. turned-now k v l′ (omega arith))

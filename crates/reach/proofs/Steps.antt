@@ -9,9 +9,11 @@ use native.Mathlib.Decide.{ℕ-discrete}
 use lib.Dec.{eqb}
 use borrow.Author.Tests.{eqb-true, eq-eqb, ne-eqb}
 use Rattle.laws.proofs.Tests.{and-left, and-right, and-both, and-false, or-cases, or-left, or-right}
-use Rattle.reach.specs.Number.{one, count, pairs, Decides, Number, Number²}
+use Rattle.laws.specs.Below.{asNumber, howMany}
+use Rattle.laws.proofs.Below.{many-le, many-but-one, many-add, many-none, many-fewer}
+use Rattle.reach.specs.Number.{pairs, Decides, Number, Number²}
 use Rattle.reach.specs.Reach.{Reach, here, move, NearPair, Near, Ground}
-use Rattle.reach.proofs.Counting.{count-le, count-one, count-add, count-none, count-lt, pairs-same, pairs-mono, pairs-none}
+use Rattle.reach.proofs.Counting.{pairs-same, pairs-mono, pairs-none}
 
 -- u is taken: it was open, it is done, its near neighbours are seen, and nothing else changes
 pub record Step (n : ℕ) (near : ℕ → ℕ → Bool) (u : ℕ) (seen done seen′ done′ : ℕ → Bool) : Type 0 where
@@ -27,7 +29,7 @@ pub record Inv (n : ℕ) (near : ℕ → ℕ → Bool) (start : ℕ) (seen done 
   pub sound : (v : ℕ) → v < n → seen v ≡ true → Reach near start v
   pub within : (v : ℕ) → v < n → done v ≡ true → seen v ≡ true
   pub closed : (u v : ℕ) → u < n → done u ≡ true → near u v ≡ true → seen v ≡ true
-  pub taken : e ≡ count n done
+  pub taken : e ≡ howMany n done
 
 -- a near pair with at least one end done: those whose test has been made
 abbrev pub touched : (ℕ → ℕ → Bool) → (ℕ → Bool) → ℕ → ℕ → Bool
@@ -47,12 +49,12 @@ Idle n seen done = (v : ℕ) → v < n → seen v ≡ true → done v ≡ true
 
 -- ---- the tests: taking u makes, for each near neighbour that is not done, one pair touched that was not
 
-split-both : (x a : Bool) → one (x && (a || true)) ≡ one (x && (a || false)) + one (x && not a)
+split-both : (x a : Bool) → asNumber (x && (a || true)) ≡ asNumber (x && (a || false)) + asNumber (x && not a)
 split-both true true = refl
 split-both true false = refl
 split-both false a = refl
 
-split-one : (x a c : Bool) → one (x && (true || c)) ≡ one (x && (false || a)) + one (x && not a)
+split-one : (x a c : Bool) → asNumber (x && (true || c)) ≡ asNumber (x && (false || a)) + asNumber (x && not a)
 split-one true true c = refl
 split-one true false c = refl
 split-one false a c = refl
@@ -64,29 +66,31 @@ module _ {n : ℕ} {near : ℕ → ℕ → Bool} (N : Near n near) (u : ℕ) (do
       pairs-same k (touched near done′) (touched near done)
       (λ a b p q. ap₂ (λ (x y : Bool). near a b && (x || y)) (keep a (omega arith) (omega arith)) (keep b (omega arith) (omega arith)))
 
-  touch-at : suc u ≤ n → pairs (suc u) (touched near done′) ≡ pairs (suc u) (touched near done) + count (suc u) (unmet near done u)
+  touch-at : suc u ≤ n → pairs (suc u) (touched near done′) ≡ pairs (suc u) (touched near done) + howMany (suc u) (unmet near done u)
+  unfolding howMany
   touch-at l = omega (
     arith,
     touch-before u (omega arith) (omega arith),
-    ap (λ (b : Bool). one (b && not (done u))) (N .irreflexive u),
-    count-add u (λ a. touched near done a u) (unmet near done u) (λ a. touched near done′ a u)
+    ap (λ (b : Bool). asNumber (b && not (done u))) (N .irreflexive u),
+    many-add (λ a. touched near done a u) (unmet near done u) (λ a. touched near done′ a u) u
         (λ a p. rw (keep a (omega arith) (omega arith), gain, un, N .symmetric u a) (split-both (near a u) (done a))),
   )
 
-  touch-after : (k : ℕ) → u < k → k ≤ n → pairs k (touched near done′) ≡ pairs k (touched near done) + count k (unmet near done u)
+  touch-after : (k : ℕ) → u < k → k ≤ n → pairs k (touched near done′) ≡ pairs k (touched near done) + howMany k (unmet near done u)
+  unfolding howMany
   touch-after zero l m = omega arith
   touch-after (suc k) l m = go (ℕ-discrete k u) (λ l′. touch-after k l′ (omega arith))
     where
-      go : Dec (k ≡ u) → (u < k → pairs k (touched near done′) ≡ pairs k (touched near done) + count k (unmet near done u))
-          → pairs (suc k) (touched near done′) ≡ pairs (suc k) (touched near done) + count (suc k) (unmet near done u)
+      go : Dec (k ≡ u) → (u < k → pairs k (touched near done′) ≡ pairs k (touched near done) + howMany k (unmet near done u))
+          → pairs (suc k) (touched near done′) ≡ pairs (suc k) (touched near done) + howMany (suc k) (unmet near done u)
       go (yes e) ih = rw e (touch-at (omega arith))
       go (no e) ih =
-          let d : one (touched near done′ u k) ≡ one (touched near done u k) + one (unmet near done u k) =
+          let d : asNumber (touched near done′ u k) ≡ asNumber (touched near done u k) + asNumber (unmet near done u k) =
           rw (gain, un) (split-one (near u k) (done k) (done′ k)) in
           omega (
             arith,
             ih (omega arith),
-            count-one k u (λ a. touched near done a k) (λ a. touched near done′ a k) (omega arith)
+            many-but-one (λ a. touched near done a k) (λ a. touched near done′ a k) k u (omega arith)
                 (λ a p q. ap₂ (λ (x y : Bool). near a k && (x || y)) (keep a (omega arith) q) (keep k (omega arith) e)),
           )
 
@@ -104,7 +108,7 @@ module _ {n : ℕ} {near : ℕ → ℕ → Bool} {start : ℕ} (F : Ground n nea
     sound = λ v l e. subst (λ (x : ℕ). Reach near start x) (sym (eqb-true v start (sym (a v l) ∙ e))) here;
     within = λ v l e. absurd (false≢true (sym (b v l) ∙ e));
     closed = λ u v l e. absurd (false≢true (sym (b u l) ∙ e));
-    taken = sym (count-none n done b);
+    taken = sym (many-none done n b);
   }
 
   pub tested-start : (done : ℕ → Bool) → ((v : ℕ) → v < n → done v ≡ false) → Tested n near done 0
@@ -126,7 +130,7 @@ module _ {n : ℕ} {near : ℕ → ℕ → Bool} {start : ℕ} (F : Ground n nea
     now-seen : (v : ℕ) → v < n → near u v ≡ true → seen′ v ≡ true
     now-seen v l h = st .seen-now v l ∙ or-left (seen v) h
 
-    pub tested-step : (t : ℕ) → Tested n near done t → Tested n near done′ (t + count n (unmet near done u))
+    pub tested-step : (t : ℕ) → Tested n near done t → Tested n near done′ (t + howMany n (unmet near done u))
     tested-step t i = omega (arith, touch-after (F .near-laws) u done done′ (st .not-done) gain keep n (st .below) (omega arith))
 
     pub inv-step : {e : ℕ} → Inv n near start seen done e → Inv n near start seen′ done′ (e + 1)
@@ -135,7 +139,7 @@ module _ {n : ℕ} {near : ℕ → ℕ → Bool} {start : ℕ} (F : Ground n nea
       sound = λ v l h. sound v l (or-cases (near u v) (seen v) (sym (st .seen-now v l) ∙ h));
       within = λ v l h. still-seen v l (within v l (or-cases (eqb v u) (done v) (sym (st .done-now v l) ∙ h)));
       closed = λ a b l h m. closed a b l m (or-cases (eqb a u) (done a) (sym (st .done-now a l) ∙ h));
-      taken = omega (arith, i .taken, count-one n u done done′ (st .below) keep, ap one gain, ap one (st .not-done));
+      taken = omega (arith, i .taken, many-but-one done done′ n u (st .below) keep, ap asNumber gain, ap asNumber (st .not-done));
     }
       where
         sound : (v : ℕ) → v < n → (near u v ≡ true) ⊎ (seen v ≡ true) → Reach near start v
@@ -161,7 +165,7 @@ module _ {n : ℕ} {near : ℕ → ℕ → Bool} {start : ℕ} (F : Ground n nea
     all-done z here = z start (F .start-on) (i .first)
     all-done z (move {u} {v} r h) = z v (F .near-laws .below u v h) (i .closed u v (reach-below r) (all-done z r) h)
 
-    pub idle-decides : Idle n seen done → Decides n (Reach near start) done
+    idle-decides : Idle n seen done → Decides n (Reach near start) done
     idle-decides z = record { yes-has = done-reach; has-yes = λ v l r. all-done z r }
 
     pub idle-number : Idle n seen done → Number n (Reach near start) e
@@ -188,13 +192,13 @@ module _ {n : ℕ} {near : ℕ → ℕ → Bool} {start : ℕ} (F : Ground n nea
       arith,
       i .taken,
       q,
-      count-lt n v done p l b (d .has-yes v l (i .sound v l a)) (λ w m h. d .has-yes w m (done-reach w m h)),
+      many-fewer done p n v l b (d .has-yes v l (i .sound v l a)) (λ w m h. d .has-yes w m (done-reach w m h)),
     )
 
     -- a vertex that is not done leaves room for one more
     pub open-room : (v : ℕ) → v < n → done v ≡ false → e < n
     open-room v l b =
-        omega (arith, i .taken, count-lt n v done (λ _. true) l b refl (λ w m h. refl), count-le n (λ _. true))
+        omega (arith, i .taken, many-fewer done (λ _. true) n v l b refl (λ w m h. refl), many-le (λ _. true) n)
 
     pub tests-at-most : (t k : ℕ) → Tested n near done t → Number² n (NearPair near start) k → t ≤ k
     tests-at-most t k m (p, d, q) =

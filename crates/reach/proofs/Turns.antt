@@ -10,29 +10,12 @@ use lib.Dec.{eqb}
 use lib.ListN.{length}
 use borrow.Author.Tests.{ne-eqb}
 use Rattle.laws.proofs.Tests.{bool-cases}
-use Rattle.reach.specs.Number.{count, Decides, Number, Number²}
+use Rattle.laws.specs.Below.{howMany}
+use Rattle.laws.proofs.Below.{many-le}
+use Rattle.reach.specs.Number.{Number, Number²}
 use Rattle.reach.specs.Reach.{Reach, NearPair, Ground}
 use Rattle.reach.specs.Turns.{at, seenIn, doneIn, Choice, nothing, arrived, vertex, Mode, Result, turns}
-use Rattle.reach.proofs.Counting.{count-le}
-use Rattle.reach.proofs.Steps.{
-  Step,
-  Inv,
-  Idle,
-  Tested,
-  unmet,
-  reach-below,
-  inv-start,
-  inv-step,
-  tested-start,
-  tested-step,
-  all-done,
-  idle-decides,
-  idle-number,
-  idle-pairs,
-  open-fewer,
-  open-room,
-  tests-at-most,
-}
+use Rattle.reach.proofs.Steps.{Step, Inv, Idle, Tested, unmet, reach-below, inv-start, inv-step, tested-start, tested-step, all-done, idle-number, idle-pairs, open-fewer, open-room, tests-at-most}
 use Rattle.reach.proofs.Marks.{Marks, taking, marks-step, marks-kept, length-taking}
 
 -- ---- one turn
@@ -66,7 +49,7 @@ pub record Disciplined {S : Type 0} (M : Mode S) (n : ℕ) (near : ℕ → ℕ �
 -- a mode that makes one test for each near neighbour not yet expanded of the vertex that it takes, and no other
 pub record OneTestEach {S : Type 0} (M : Mode S) (tests : S → ℕ) (n : ℕ) (near : ℕ → ℕ → Bool) : Type 0 where
   pub take-tests : (u : ℕ) (s : S) → n ≤ length (M .mark s) → u < n → Marks n (M .mark s)
-      → tests (M .take u s) ≡ tests s + count n (unmet near (doneIn (M .mark s)) u)
+      → tests (M .take u s) ≡ tests s + howMany n (unmet near (doneIn (M .mark s)) u)
   pub stop-tests : (s : S) → tests (M .stop s) ≡ tests s
 
 -- what holds between the turns of every mode
@@ -126,7 +109,7 @@ module _ {S : Type 0} {M : Mode S} {n : ℕ} {near : ℕ → ℕ → Bool} {star
       done v l = rw (m v l) (begun-done (eqb v start))
 
   pub expansions-le : {s : S} → Sane M n near start goal s → M .expansions s ≤ n
-  expansions-le {s} G = omega (arith, G .inv .taken, count-le n (doneIn (M .mark s)))
+  expansions-le {s} G = omega (arith, G .inv .taken, many-le (doneIn (M .mark s)) n)
 
   module _ (D : Disciplined M n near goal) where
     -- ---- one turn keeps it
@@ -218,10 +201,6 @@ module _ {S : Type 0} {M : Mode S} {n : ℕ} {near : ℕ → ℕ → Bool} {star
         go : (r .found ≡ true) ⊎ (r .found ≡ false) → r .found ≡ true
         go (inl e) = e
         go (inr e) = absurd (true≢false (sym (all-done F (E .sane .inv) (E .idle e) R) ∙ E .sane .goal-left (reach-below F R)))
-
-    -- with none, the expanded vertices are the reachable ones
-    pub none-decides : r .found ≡ false → Decides n (Reach near start) (doneIn (M .mark (r .state)))
-    none-decides f = idle-decides F (E .sane .inv) (E .idle f)
 
     pub none-expansions : r .found ≡ false → Number n (Reach near start) (M .expansions (r .state))
     none-expansions f = idle-number F (E .sane .inv) (E .idle f)

@@ -1,22 +1,13 @@
 -- "The number of": how many vertices, or unordered pairs of vertices, have a property.
 use mathlib.Core.Path.{_≡_}
-use mathlib.Core.Bool.{Bool, true, false}
+use mathlib.Core.Bool.{Bool, true}
 use Prim.Native.Nat.{ℕ, zero, suc, _+_, _<_}
-
--- 1 for yes, 0 for no
-abbrev pub one : Bool → ℕ
-one true = 1
-one false = 0
-
--- how many of the numbers below n pass the test p
-abbrev pub count : ℕ → (ℕ → Bool) → ℕ
-count zero p = 0
-count (suc n) p = one (p n) + count n p
+use Rattle.laws.specs.Below.{howMany}
 
 -- how many pairs u < v below n pass the test p
 abbrev pub pairs : ℕ → (ℕ → ℕ → Bool) → ℕ
 pairs zero p = 0
-pairs (suc n) p = count n (λ u. p u n) + pairs n p
+pairs (suc n) p = howMany n (λ u. p u n) + pairs n p
 
 -- the test p says yes exactly to those v below n that have P
 pub record Decides (n : ℕ) (P : ℕ → Type 0) (p : ℕ → Bool) : Type 0 where
@@ -25,7 +16,7 @@ pub record Decides (n : ℕ) (P : ℕ → Type 0) (p : ℕ → Bool) : Type 0 wh
 
 -- k is the number of the v below n that have P
 abbrev pub Number : (n : ℕ) (P : ℕ → Type 0) (k : ℕ) → Type 0
-Number n P k = (p : ℕ → Bool) × Decides n P p × (k ≡ count n p)
+Number n P k = (p : ℕ → Bool) × Decides n P p × (k ≡ howMany n p)
 
 -- the test p says yes exactly to those pairs u < v below n that have P
 pub record Decides² (n : ℕ) (P : ℕ → ℕ → Type 0) (p : ℕ → ℕ → Bool) : Type 0 where

@@ -1,7 +1,7 @@
 -- Demands 2 and 3, proved of every call. Assumes nothing.
 use mathlib.Core.Path.{_≡_, refl, sym, ap, _∙_, subst}
 use mathlib.Core.Bool.{Bool, true, false, not, _||_, _&&_, cond, true≢false, false≢true}
-use mathlib.Core.List.{List, [], _∷_, _++_}
+use mathlib.Core.List.{List, [], _++_}
 use Prim.Native.Nat.{ℕ, _*_, _^_, _≤_, _<_}
 use native.Mathlib.Omega.{arith}
 use lib.Dec.{ltb, eqb}
@@ -14,7 +14,7 @@ use Rattle.board.proofs.Rows.{leg-sound, leg-first}
 use Rattle.length.proofs.Floats.{cells-exact}
 use Rattle.reach.specs.Turns.{at}
 use Rattle.search.specs.Search.{Problem, search, path}
-use Rattle.search.specs.Demands.{Complete, Searched}
+use Rattle.search.specs.Demands.{Searched}
 use Rattle.search.specs.Request.{problem}
 use Rattle.search.proofs.Theorems.{board-complete, board-route, board-measured, found-units, found-exact}
 use Rattle.router.specs.Paper.{found, none, searchRow, Lent, routeRow, searched, Routed}
@@ -42,13 +42,13 @@ module _ (b : Board) (sx sy gx gy : ℕ) (lent : Lent) (e : searched (routeRow b
       (ltb (lent .g) (vertices b) || (ltb (lent .parents) (vertices b) || ltb (lent .marks) (vertices b))) (firstBad (b .cells))
       (searchRow (problem b sx sy gx gy) (lent .path)) e
 
-  pub start-on : OnBoard b sx sy
+  start-on : OnBoard b sx sy
   start-on = leg-first b sx sy gx gy (both .0)
 
-  pub sound : Sound b
+  sound : Sound b
   sound = leg-sound b sx sy gx gy (both .0)
 
-  pub row-searched : routeRow b sx sy gx gy lent ≡ searchRow (problem b sx sy gx gy) (lent .path)
+  row-searched : routeRow b sx sy gx gy lent ≡ searchRow (problem b sx sy gx gy) (lent .path)
   row-searched = both .1
 
 -- ---- what the search's row says
@@ -114,7 +114,7 @@ module _ (b : Board) (sx sy gx gy : ℕ) (lent : Lent) where
       let z = eight-none p (lent .path) (ap (λ (x : Handed). x .number) (sym r) ∙ e) in
       (start-on b sx sy gx gy lent s, z .0, r ∙ z .1)
 
-  pub row-exhaustive : Exhaustive b sx sy gx gy h
+  row-exhaustive : Exhaustive b sx sy gx gy h
   unfolding problem
   row-exhaustive = record {
     path-joined = λ e. let z = zero e in board-complete b sx sy gx gy (z .0) .found-reach (z .1);
@@ -132,7 +132,7 @@ module _ (b : Board) (sx sy gx gy : ℕ) (lent : Lent) where
       let F = left-by p (z .1) in
       subst (λ (n : ℕ). n < 2 ^ 53) (found-units (z .0) gx gy F) (found-exact (z .0) gx gy F (sound b sx sy gx gy lent (rw e)))
 
-  pub row-rightly : (way way′ : List ℕ) → h .number ≡ 0 → way′ ≡ path p (search p .state) ++ drop (count p) way → Rightly b sx sy gx gy h way′
+  row-rightly : (way way′ : List ℕ) → h .number ≡ 0 → way′ ≡ path p (search p .state) ++ drop (count p) way → Rightly b sx sy gx gy h way′
   unfolding problem
   row-rightly way way′ e w =
       let z = zero e in

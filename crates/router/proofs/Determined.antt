@@ -1,13 +1,13 @@
 -- The route call's contract admits one answer and one content of each slice. Assumes nothing.
 use mathlib.Core.Path.{_≡_, refl, sym, ap, _∙_}
 use mathlib.Core.Bool.{cond}
-use mathlib.Core.List.{List, [], _∷_}
+use mathlib.Core.List.{List}
 use Prim.Native.Nat.{ℕ}
 use lib.Dec.{eqb}
 use lib.ListN.{getD}
 use lib.Ieee.{nan}
 use Rattle.board.specs.Board.{Board}
-use Rattle.board.specs.Paper.{Handed}
+use Rattle.board.specs.Paper.{Handed, value}
 use Rattle.search.specs.Search.{search, path}
 use Rattle.search.specs.Request.{problem}
 use Rattle.router.specs.declared.Answer.{Answer}
@@ -17,13 +17,13 @@ use Rattle.router.specs.Paper.{handed, searched, left, Routed}
 -- the answer that hands this back
 from : Handed → Answer
 from h =
-    cond (eqb (h .number) 0) (Found (getD (h .floats) 0 nan) (getD (h .values) 0 0) (getD (h .values) 1 0) (getD (h .values) 2 0) (getD (h .values) 3 0))
+    cond (eqb (h .number) 0) (Found (getD (h .floats) 0 nan) (value h 0) (value h 1) (value h 2) (value h 3))
     (cond (eqb (h .number) 1) Side
     (cond (eqb (h .number) 2) Count
     (cond (eqb (h .number) 3) (Byte (h .place))
     (cond (eqb (h .number) 4) First
     (cond (eqb (h .number) 5) Second
-    (cond (eqb (h .number) 6) Work (cond (eqb (h .number) 7) (Short (h .place)) (NoPath (getD (h .values) 0 0) (getD (h .values) 1 0)))))))))
+    (cond (eqb (h .number) 6) Work (cond (eqb (h .number) 7) (Short (h .place)) (NoPath (value h 0) (value h 1)))))))))
 
 back : (r : Answer) → from (handed r) ≡ r
 unfolding from

@@ -1,17 +1,18 @@
 -- The route call's answer and slices, from its steps. Assumes nothing.
 use mathlib.Core.Path.{_≡_, refl, sym, ap, _∙_}
-use mathlib.Core.Bool.{Bool, true, false, not, _||_, cond, true≢false}
+use mathlib.Core.Bool.{Bool, true, false, not, _||_, cond}
 use mathlib.Core.List.{List, [], _∷_, _++_}
-use Prim.Native.Nat.{ℕ, suc, _≤_, _<_}
+use Prim.Native.Nat.{ℕ, suc, _≤_}
 use native.Mathlib.Omega.{arith}
-use types.Run.{OneOf, miss}
+use types.Run.{OneOf}
 use denote.Enum.Declared.{tagOf}
-use lib.Dec.{ltb, eqb}
+use lib.Dec.{ltb, eqb, eqb·suc-zero}
 use lib.ListN.{length, drop, length-append}
 use borrow.Author.Tests.{ne-eqb, ltb-false}
+use Rattle.laws.proofs.Tests.{or-neither}
 use Rattle.board.specs.declared.Checked.{Checked}
-use Rattle.board.specs.declared.Checked.the-variants.{Accepted, Side, Count, Byte, First, Second}
-use Rattle.board.specs.Board.{Board, vertices, Sound, OnBoard}
+use Rattle.board.specs.declared.Checked.the-variants.{Accepted}
+use Rattle.board.specs.Board.{Board, vertices}
 use Rattle.board.specs.Paper.{Handed, refusal, accepted, legRows}
 use Rattle.board.specs.Paper as checks
 use Rattle.board.proofs.Checked.{the-type}
@@ -88,27 +89,21 @@ module _ {p : Problem} (W : Work p (search p .state)) {g parents marks g′ pare
 
 -- three lists with room for n entries
 pub rooms : (n x y z : ℕ) → (ltb x n || (ltb y n || ltb z n)) ≡ false → (n ≤ x) × (n ≤ y) × (n ≤ z)
-rooms n x y z e = go (ltb x n) (ltb y n) (ltb z n) refl refl refl e
-  where
-    go : (a c d : Bool) → ltb x n ≡ a → ltb y n ≡ c → ltb z n ≡ d → (a || (c || d)) ≡ false → (n ≤ x) × (n ≤ y) × (n ≤ z)
-    go false false false p q r e = (ltb-false x n p, ltb-false y n q, ltb-false z n r)
-    go false false true p q r e = absurd (true≢false e)
-    go false true d p q r e = absurd (true≢false e)
-    go true c d p q r e = absurd (true≢false e)
+rooms n x y z e =
+    let (p, o) = or-neither (ltb x n) (ltb y n || ltb z n) e in
+    let (q, r) = or-neither (ltb y n) (ltb z n) o in
+    (ltb-false x n p, ltb-false y n q, ltb-false z n r)
 
 -- a refused check is not an accepted one
 pub not-accepted : (r : Checked) → OneOf (1 ∷ 2 ∷ 3 ∷ 4 ∷ 5 ∷ []) (tagOf the-type r) → r ≡ Accepted → ⊥
-not-accepted r k e = let (n, q, i) = is-refusal r k in no-acceptance n q (sym i ∙ ap checks.handed e)
+not-accepted r k e = let (n, q, i, l) = is-refusal r k in no-acceptance n q (sym i ∙ ap checks.handed e)
 
 -- a refusal 1 to 6 is no search, and no path
 quiet : (n : ℕ) → suc n ≤ 6 → (searched (suc n) ≡ false) × (eqb (suc n) 0 ≡ false)
-quiet n l = (
-  rw (ne-eqb (suc n) 0 (λ e. off n 0 e (omega arith)), ne-eqb (suc n) 7 (λ e. off n 7 e (omega arith)), ne-eqb (suc n) 8 (λ e. off n 8 e (omega arith))),
-  ne-eqb (suc n) 0 (λ e. off n 0 e (omega arith)),
-)
-  where
-    off : (n m : ℕ) → suc n ≡ m → (suc n ≡ m → ⊥) → ⊥
-    off n m e d = d e
+quiet n l =
+    let seven : suc n ≡ 7 → ⊥ = λ e. omega arith in
+    let eight : suc n ≡ 8 → ⊥ = λ e. omega arith in
+    (rw (eqb·suc-zero n, ne-eqb (suc n) 7 seven, ne-eqb (suc n) 8 eight), eqb·suc-zero n)
 
 module _ (b : Board) (sx sy gx gy : ℕ) (g parents marks way : List ℕ) where
   abbrev lent : Lent
@@ -124,19 +119,8 @@ module _ (b : Board) (sx sy gx gy : ℕ) (g parents marks way : List ℕ) where
       → checks.handed r ≡ legRows b sx sy gx gy accepted → Routed b sx sy gx gy g parents marks way g parents marks way h
   unfolding routeRow
   routed-refused r k h e f =
-      let (n, q, i) = is-refusal r k in
-      rw (e ∙ i) (kept n q (few r k n q i) (sym (refused-on (legRows b sx sy gx gy) (leg-screen b sx sy gx gy) n q (sym f ∙ i) _)))
-    where
-      few : (r : Checked) → OneOf (1 ∷ 2 ∷ 3 ∷ 4 ∷ 5 ∷ []) (tagOf the-type r) → (n q : ℕ) → checks.handed r ≡ refusal (suc n) q → suc n ≤ 6
-      few r k n q i = let z : checks.handed r .number ≡ suc n = ap (λ (x : Handed). x .number) i in omega (arith, most r)
-        where
-          most : (r : Checked) → checks.handed r .number ≤ 5
-          most Accepted = omega arith
-          most Side = omega arith
-          most Count = omega arith
-          most (Byte p) = omega arith
-          most First = omega arith
-          most Second = omega arith
+      let (n, q, i, l) = is-refusal r k in
+      rw (e ∙ i) (kept n q (omega arith) (sym (refused-on (legRows b sx sy gx gy) (leg-screen b sx sy gx gy) n q (sym f ∙ i) _)))
 
   module _ (a : legRows b sx sy gx gy accepted ≡ accepted) where
     -- refused for a short work slice

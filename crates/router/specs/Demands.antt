@@ -7,17 +7,13 @@ use lib.ListN.{length, getD, take}
 use lib.Ieee.{nan}
 use lib.Ieee.Exact.{HasValue}
 use Rattle.board.specs.Board.{Board, vertices, number}
-use Rattle.board.specs.Paper.{Handed}
+use Rattle.board.specs.Paper.{Handed, value}
 use Rattle.length.specs.Units.{unitsPerCell}
 use Rattle.sight.specs.Neighbours.{visible}
 use Rattle.reach.specs.Number.{Number, Number²}
 use Rattle.reach.specs.Reach.{Reach, NearPair}
 use Rattle.search.specs.Demands.{IsRoute}
 use Rattle.search.specs.Request.{problem, Measured}
-
--- the value at a place of what is handed back
-abbrev pub value : Handed → ℕ → ℕ
-value h k = getD (h .values) k 0
 
 -- single moves between visible neighbours join the start to v
 abbrev pub Joined : Board → (sx sy gx gy v : ℕ) → Type 0

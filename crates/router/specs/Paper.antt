@@ -1,16 +1,15 @@
 -- What the route call hands back, in document 01's numbers 0 to 8, and what it leaves in the lent slices.
 use Prim.Native.Nat.{ℕ}
 use mathlib.Core.Path.{_≡_}
-use mathlib.Core.Bool.{Bool, true, false, _||_, cond}
+use mathlib.Core.Bool.{Bool, _||_, cond}
 use mathlib.Core.List.{List, [], _∷_, _++_}
 use lib.Dec.{ltb, eqb}
 use lib.ListN.{length, drop}
-use lib.Ieee.{Float}
 use Rattle.board.specs.Board.{Board, vertices}
 use Rattle.board.specs.Paper.{Handed, refusal, legRows}
 use Rattle.length.specs.Floats.{cellsOf}
-use Rattle.reach.specs.Turns.{at, Result}
-use Rattle.search.specs.Search.{Problem, State, search, path}
+use Rattle.reach.specs.Turns.{at}
+use Rattle.search.specs.Search.{Problem, search, path}
 use Rattle.search.specs.Request.{problem}
 use Rattle.router.specs.declared.Answer.{Answer}
 use Rattle.router.specs.declared.Answer.the-variants.{Found, NoPath, Side, Count, Byte, First, Second, Work, Short}

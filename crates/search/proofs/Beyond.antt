@@ -48,7 +48,7 @@ module _ (p : Problem) (g m g′ m′ : List ℕ) (gs : (v : ℕ) → v < p .siz
   better-same k r l (inl e) = rw (ms k l, eq-eqb r (p .size) e) refl
   better-same k r l (inr h) = rw (ms k l, gs k l, gs r h) refl
 
-  pub least-same : (k : ℕ) → k ≤ p .size → least p g′ m′ k ≡ least p g m k
+  least-same : (k : ℕ) → k ≤ p .size → least p g′ m′ k ≡ least p g m k
   unfolding least
   least-same zero l = refl
   least-same (suc k) l =
@@ -132,7 +132,7 @@ module _ (gs ps ms : List ℕ) where
     search-beyond F = turns-carried carries (suc (p .size)) (initial p) (tidy-start F (begins-initial F))
 
 -- the path is the same
-pub trail-beyond : {p : Problem} {s : State} → Tidy p s → (ps : List ℕ) (k v : ℕ) → v < p .size
+trail-beyond : {p : Problem} {s : State} → Tidy p s → (ps : List ℕ) (k v : ℕ) → v < p .size
     → trail (p .start) (s .parent ++ ps) k v ≡ trail (p .start) (s .parent) k v
 unfolding trail
 trail-beyond T ps zero v l = refl

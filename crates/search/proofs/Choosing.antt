@@ -27,7 +27,7 @@ module _ (p : Problem) (g m : List ℕ) where
       go false e (inl h) = inl h
       go false e (inr h) = inr (omega arith, h .1)
 
-  pub least-none : (k : ℕ) → k ≤ p .size → least p g m k ≡ p .size → (v : ℕ) → v < k → at m v ≡ 1 → ⊥
+  least-none : (k : ℕ) → k ≤ p .size → least p g m k ≡ p .size → (v : ℕ) → v < k → at m v ≡ 1 → ⊥
   unfolding least better
   least-none zero l e v j o = omega arith
   least-none (suc k) l e v j o = go (better p g m k (least p g m k)) refl e (λ q j′. least-none k (omega arith) q v j′ o)

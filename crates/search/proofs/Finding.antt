@@ -56,7 +56,7 @@ still-open mark v l w o = go (ℕ-discrete w v)
     go (no z) = sym (getD-set-other mark v w 2 0 z) ∙ o
 
 -- a vertex number's place
-pub placed-number : (cells : List ℕ) (q : Request) (s : Spot) (v : ℕ) → v < sizeOf q
+placed-number : (cells : List ℕ) (q : Request) (s : Spot) (v : ℕ) → v < sizeOf q
     → (s .x ≡ columnOf (q .width) v) × (s .y ≡ rowOf (q .width) v) × (s .number ≡ v) → Placed (boardOf cells q) s
 placed-number cells q s v l e = record {
   on = record { x-on = omega (arith, e .0, column-on (q .width) v); y-on = omega (arith, e .1, row-on (q .width) (q .height) v l) };

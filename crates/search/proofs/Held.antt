@@ -30,10 +30,10 @@ abbrev pub Going : (p : Problem) (longest : ℕ) (whole : Result State) (s : Sta
 Going p longest whole s = Loop.Going (basic p) (p .size) (p .near) (p .start) (p .goal) (Held p longest) whole s
 
 module _ {p : Problem} (F : Fair p) {longest : ℕ} where
-  pub held-start : {s : State} → Begins p s → Held p longest s
+  held-start : {s : State} → Begins p s → Held p longest s
   held-start B = record { counted = counted-start F B; tidy = tidy-start F B; linked = linked-start longest F B }
 
-  pub held-kept : Legs p longest → Kept p (Held p longest)
+  held-kept : Legs p longest → Kept p (Held p longest)
   held-kept W = record {
     on-take = λ u s G e H.
         let o = choose-vertex p s u e in

@@ -51,7 +51,7 @@ wins-unseen : (p : Problem) (s : State) (c w : ℕ) → at (s .mark) w ≡ 0 →
 wins-unseen p s c w e = rw e refl
 
 -- a seen vertex wins only with a smaller g
-pub wins-lower : (p : Problem) (s : State) (c w : ℕ) → seenIn (s .mark) w ≡ true → wins p s c w ≡ true → cost p s c w < at (s .g) w
+wins-lower : (p : Problem) (s : State) (c w : ℕ) → seenIn (s .mark) w ≡ true → wins p s c w ≡ true → cost p s c w < at (s .g) w
 wins-lower p s c w h e = go (or-cases (eqb (at (s .mark) w) 0) (ltb (cost p s c w) (at (s .g) w)) e)
   where
     go : (eqb (at (s .mark) w) 0 ≡ true) ⊎ (ltb (cost p s c w) (at (s .g) w) ≡ true) → cost p s c w < at (s .g) w

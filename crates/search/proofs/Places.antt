@@ -71,7 +71,7 @@ module _ (cells : List ℕ) (q : Request) where
   rising-blocks = blocks-rise (q .width + 1) (q .height + 1) ((asked cells q) .size) (side + 1 + q .height / block + 1) sized
 
   module _ {s t : Spot} (P : Placed (boardOf cells q) s) (Q : Placed (boardOf cells q) t) where
-    pub sees-placed : (asked cells q) .sees (s .number) (t .number) ≡ sees (boardOf cells q) (s .x) (s .y) (t .x) (t .y)
+    sees-placed : (asked cells q) .sees (s .number) (t .number) ≡ sees (boardOf cells q) (s .x) (s .y) (t .x) (t .y)
     unfolding problem
     sees-placed = rw (placed-column P, placed-row P, placed-column Q, placed-row Q) refl
 

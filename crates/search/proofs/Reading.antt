@@ -9,7 +9,7 @@ use lib.Seq.{take-suc, drop-cons, set-at, length-take-le, drop-length}
 use Rattle.reach.specs.Turns.{at}
 use Rattle.search.specs.Search.{trail}
 use Rattle.search.specs.Back.{Back, Traced}
-use Rattle.search.proofs.Trails.{trail-length, trail-first, trail-last, trail-prev, trail-at, trail-leaves, trail-on, back-some, back-start}
+use Rattle.search.proofs.Trails.{trail-length, trail-first, trail-last, trail-prev, trail-at, trail-leaves, back-some, back-start}
 
 -- k vertices of the path to v are counted, x is the next one back, and `legs` more lead to the start
 pub record Left (n start : ℕ) (parent : List ℕ) (v x k : ℕ) : Type 0 where
@@ -55,9 +55,6 @@ module _ {n start : ℕ} {parent : List ℕ} {v : ℕ} (R : Traced n start paren
       let away : at (trail start parent n v) i ≢ start =
       rw (← q) (trail-leaves (R .back) n (omega (arith, R .few)) (i - 1) (omega (arith, path-length))) in
       back-some (trail-at (R .back) n (omega (arith, R .few)) i (omega (arith, path-length))) away .3
-
-  pub path-on : start < n → (i : ℕ) → i < length (trail start parent n v) → at (trail start parent n v) i < n
-  path-on sn i l = trail-on (R .back) n (omega (arith, R .few)) sn i (omega (arith, path-length))
 
   pub path-prev : (i x : ℕ) → 0 < i → i < length (trail start parent n v) → x ≡ at (trail start parent n v) i
       → at parent x ≡ at (trail start parent n v) (i - 1)

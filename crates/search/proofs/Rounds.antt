@@ -11,7 +11,7 @@ use lib.ListN.{set, length-set}
 use borrow.Author.Tests.{eqb-true, eq-eqb, ne-eqb, ltb-true}
 use Rattle.laws.proofs.Tests.{and-false}
 use Rattle.reach.specs.Turns.{at, doneIn, vertex, Result}
-use Rattle.reach.proofs.Counting.{count-le}
+use Rattle.laws.proofs.Below.{many-le}
 use Rattle.reach.proofs.Steps.{unmet}
 use Rattle.reach.proofs.Marks.{turned, turned-done, turned-le, marks-set}
 use Rattle.search.specs.Search.{Problem, State, choose, due, relax, around, close, expand}
@@ -99,7 +99,7 @@ module _ {p : Problem} {u k : ℕ} {g parent mark : List ℕ} {t : ℕ} {g′ pa
       arith,
       ap (λ (x : State). x .tests) now-is,
       around-tests p u before k (λ v h. D .marks v (omega arith)),
-      count-le k (unmet (p .near) (doneIn mark) u),
+      many-le (unmet (p .near) (doneIn mark) u) k,
     )
 
     fixed : (v : ℕ) → at mark v ≡ 2 → entryOf now v ≡ entryOf before v

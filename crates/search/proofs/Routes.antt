@@ -53,12 +53,12 @@ module _ {p : Problem} (F : Fair p) {longest : ℕ} {s : State} (G : Good p s) (
       (omega (arith, trail-units r f (omega arith) (seen-parent v m d h), K .links v m h d .adds))
 
   -- the chain of an open vertex has fewer legs than there are vertices
-  pub open-traced : (v : ℕ) → v < p .size → at (s .mark) v ≡ 1 → Traced (p .size) (p .start) (s .parent) v
+  open-traced : (v : ℕ) → v < p .size → at (s .mark) v ≡ 1 → Traced (p .size) (p .start) (s .parent) v
   open-traced v l o =
       let q = K .depth v l (rw o refl) in
       record { legs = q .0; back = q .1; few = omega (arith, q .2, open-room (F .ground) (G .inv) v l (rw o refl)) }
 
-  pub goal-route : p .goal < p .size → at (s .mark) (p .goal) ≡ 1 → IsRoute p (path p s) (at (s .g) (p .goal))
+  goal-route : p .goal < p .size → at (s .mark) (p .goal) ≡ 1 → IsRoute p (path p s) (at (s .g) (p .goal))
   goal-route on o =
       let R = open-traced (p .goal) on o in
       let b = R .back in

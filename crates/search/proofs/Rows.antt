@@ -11,8 +11,8 @@ use native.Mathlib.Decide.{ℕ-discrete, decLt}
 use lib.Dec.{eqb}
 use lib.ListN.{length, set, length-set}
 use lib.Seq.{getD-set-same, getD-set-other}
-use borrow.Author.Tests.{eq-eqb, ne-eqb}
-use Rattle.laws.proofs.Tests.{or-left, or-right, false-of}
+use borrow.Author.Tests.{eqb-false, eq-eqb, ne-eqb}
+use Rattle.laws.proofs.Tests.{or-neither, false-of}
 use Rattle.board.specs.Limits.{side}
 use Rattle.reach.specs.Turns.{at}
 use Rattle.search.specs.Search.{Problem, Rank, sooner, rankOf, fOf, least}
@@ -153,10 +153,10 @@ pub lead-behind : {p : Problem} {g m : List ℕ} {lo hi lo′ hi′ r f r′ f�
 lead-behind {p} {g} {m} {lo} {hi} {lo′} {hi′} {r} {f} {r′} {f′} a l h s L W n = go (W .first)
   where
     held : r ≢ p .size
-    held e = true≢false (sym (or-left (sooner a (ranked f (at g r) r)) (eq-eqb r (p .size) e)) ∙ n)
+    held = eqb-false r (p .size) (or-neither (eqb r (p .size)) (sooner a (ranked f (at g r) r)) n .0)
 
     behind : sooner a (rankOf p g r) ≡ false
-    behind = false-of _ (λ t. true≢false (sym (or-right (eqb r (p .size)) (rw (L .keyed held) t)) ∙ n))
+    behind = rw (L .keyed held) at (or-neither (eqb r (p .size)) (sooner a (ranked f (at g r) r)) n .1)
 
     on : (lo ≤ r) × (r < hi) × (at m r ≡ 1)
     on = first-on (L .first) held

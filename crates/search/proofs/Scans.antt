@@ -17,7 +17,7 @@ use Rattle.search.proofs.First.{first-on, first-none, first-join, first
 use Rattle.search.proofs.Rows.{cut-le, cut-on}
 
 -- the test against the holder r, whose f is known where there is a holder, is the order's
-pub beats-before : (p : Problem) (g : List ℕ) (q r h f : ℕ) → h ≡ fOf p g q → (r ≢ p .size → f ≡ fOf p g r)
+beats-before : (p : Problem) (g : List ℕ) (q r h f : ℕ) → h ≡ fOf p g q → (r ≢ p .size → f ≡ fOf p g r)
     → beats (p .size) (ranked h (at g q) q) (ranked f (at g r) r) ≡ (eqb r (p .size) || before p g q r)
 beats-before p g q r h f e k = go (ℕ-discrete r (p .size))
   where

@@ -9,10 +9,10 @@ use native.Mathlib.Decide.{ℕ-discrete}
 use lib.Dec.{eqb}
 use lib.ListN.{length, set}
 use lib.Seq.{getD-set-other, set-getD}
-use Rattle.reach.specs.Number.{one, count}
+use Rattle.laws.specs.Below.{asNumber, howMany}
+use Rattle.laws.proofs.Below.{many-same}
 use Rattle.reach.specs.Reach.{Near}
 use Rattle.reach.specs.Turns.{at, doneIn}
-use Rattle.reach.proofs.Counting.{count-same}
 use Rattle.reach.proofs.Steps.{unmet}
 use Rattle.reach.proofs.Marks.{Marks, opened, turned, turned-later, taking, marks-set}
 use Rattle.reach.proofs.Turns.{Disciplined, OneTestEach}
@@ -41,7 +41,7 @@ module _ (p : Problem) (u w : ℕ) (s : State) where
   relax-mark true (suc (suc zero)) e h = refl
   relax-mark true (suc (suc (suc a))) e h = absurd (omega arith)
 
-  relax-tests : (c : Bool) → (relax c p u w s) .tests ≡ s .tests + one c
+  relax-tests : (c : Bool) → (relax c p u w s) .tests ≡ s .tests + asNumber c
   relax-tests true = store-tests (wins p s (via p s u w) w) w (via p s u w) (cost p s (via p s u w) w) s
   relax-tests false = omega arith
 
@@ -61,16 +61,16 @@ module _ (p : Problem) (u : ℕ) (s : State) where
       (rw (ih, turned-later (p .near) u (s .mark) k k (omega arith)) (h k (omega arith)))
       ∙ ap (λ (m : List ℕ). opened (p .near u k && eqb (at m k) 0) k m) ih
 
-  pub around-tests : (k : ℕ) → Marks k (s .mark) → (around p u k s) .tests ≡ s .tests + count k (unmet (p .near) (doneIn (s .mark)) u)
-  unfolding around
+  pub around-tests : (k : ℕ) → Marks k (s .mark) → (around p u k s) .tests ≡ s .tests + howMany k (unmet (p .near) (doneIn (s .mark)) u)
+  unfolding around howMany
   around-tests zero h = omega arith
   around-tests (suc k) h =
       let ih = around-tests k (λ v l. h v (omega arith)) in
-      let same : one (due p u k (around p u k s)) ≡ one (unmet (p .near) (doneIn (s .mark)) u k) =
+      let same : asNumber (due p u k (around p u k s)) ≡ asNumber (unmet (p .near) (doneIn (s .mark)) u k) =
       rw (around-mark k (λ v l. h v (omega arith)), turned-later (p .near) u (s .mark) k k (omega arith)) refl in
       omega (arith, relax-tests p u k (around p u k s) (due p u k (around p u k s)))
 
-  pub around-expansions : (k : ℕ) → (around p u k s) .expansions ≡ s .expansions
+  around-expansions : (k : ℕ) → (around p u k s) .expansions ≡ s .expansions
   unfolding around
   around-expansions zero = refl
   around-expansions (suc k) = relax-expansions p u k (around p u k s) (due p u k (around p u k s)) ∙ around-expansions k
@@ -95,12 +95,12 @@ module _ (p : Problem) (u : ℕ) (s : State) (room : p .size ≤ length (s .mark
   unfolding expand close
   expand-mark = around-mark p u (close u s) (p .size) marks-close
 
-  expand-tests : Near (p .size) (p .near) → (expand p u s) .tests ≡ s .tests + count (p .size) (unmet (p .near) (doneIn (s .mark)) u)
+  expand-tests : Near (p .size) (p .near) → (expand p u s) .tests ≡ s .tests + howMany (p .size) (unmet (p .near) (doneIn (s .mark)) u)
   unfolding expand close
   expand-tests N =
       around-tests p u (close u s) (p .size) marks-close
       ∙ ap (λ (x : ℕ). s .tests + x)
-      (count-same (p .size) (unmet (p .near) (doneIn (set (s .mark) u 2)) u) (unmet (p .near) (doneIn (s .mark)) u) (λ v k. go v (ℕ-discrete v u)))
+      (many-same (unmet (p .near) (doneIn (set (s .mark) u 2)) u) (unmet (p .near) (doneIn (s .mark)) u) (p .size) (λ v k. go v (ℕ-discrete v u)))
     where
       go : (v : ℕ) → Dec (v ≡ u) → unmet (p .near) (doneIn (set (s .mark) u 2)) u v ≡ unmet (p .near) (doneIn (s .mark)) u v
       go v (yes e) = rw (e, N .irreflexive u) refl

@@ -18,7 +18,7 @@ use Rattle.search.specs.Request.{problem, squareFrom, marksAlong, Measur
 use Rattle.search.proofs.Completeness.{search-stopped, search-complete}
 use Rattle.search.proofs.Tidy.{search-work}
 use Rattle.search.proofs.Held.{search-held, g-bound}
-use Rattle.search.proofs.Trails.{trail-start, trail-back, trail-length}
+use Rattle.search.proofs.Trails.{trail-start, trail-back}
 use Rattle.search.proofs.Routes.{goal-open, search-traced, search-route}
 use Rattle.search.proofs.Beyond.{path-beyond}
 use Rattle.search.proofs.Sizes.{largest-exact}
@@ -44,7 +44,7 @@ module _ (b : Board) (sx sy gx gy : ℕ) where
       let n = squareFrom b v w * 2 ^ 40 in
       omega (arith, finer-high m n p, marks-high m p w l)
 
-  pub path-measured : (l : List ℕ) → Measured b l (unitsAlong (problem b sx sy gx gy) l)
+  path-measured : (l : List ℕ) → Measured b l (unitsAlong (problem b sx sy gx gy) l)
   path-measured l = record {
     each = λ i _. units-bounds (squareFrom b (at l i) (at l (i + 1)));
     at-most = λ m. marks-low m l;
@@ -147,12 +147,6 @@ module _ {b : Board} {sx sy : ℕ} (S : OnBoard b sx sy) (gx gy : ℕ) {g parent
       ∙ trail-fuel (back-longer (length (own ++ rest)) rest l h (short .back)) (length (own ++ rest)) (vertices b) (omega (arith, short .few))
       (omega (arith, short .few))
       ∙ path-beyond (board-fair b sx sy gx gy S) (goal-open (board-fair b sx sy gx gy S) found .0) rest
-
-  -- the path has a vertex, and no more than the board
-  pub found-count : (0 < length (path (problem b sx sy gx gy) ((search (problem b sx sy gx gy)) .state)))
-      × (length (path (problem b sx sy gx gy) ((search (problem b sx sy gx gy)) .state)) ≤ vertices b)
-  unfolding problem
-  found-count = let n = trail-length (short .back) (vertices b) (omega (arith, short .few)) in (omega arith, omega (arith, short .few))
 
   -- its units stand at the goal's place
   pub found-units : at g′ (number b gx gy) ≡ at ((search (problem b sx sy gx gy)) .state .g) (number b gx gy)

@@ -49,7 +49,7 @@ around-sizes p u s k l =
     around-keep p u (SameSizes s) (λ w r h i. relax-sizes p u s (due p u w r) w r i) s
     (record { g-same = refl; parent-same = refl; mark-same = refl }) k l
 
-pub expand-sizes : (p : Problem) (u : ℕ) (s : State) → SameSizes s (expand p u s)
+expand-sizes : (p : Problem) (u : ℕ) (s : State) → SameSizes s (expand p u s)
 unfolding expand close
 expand-sizes p u s =
     let h = around-sizes p u (close u s) (p .size) (omega arith) in

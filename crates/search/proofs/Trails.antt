@@ -82,7 +82,7 @@ module _ {n start : ℕ} {parent : List ℕ} where
       go (yes e) ih = rw (e, trail-last (leg m h r) (suc f) l) (leg m h r)
       go (no e) ih = rw (trail-inside h r f (omega arith) i (omega arith)) (ih (omega arith))
 
-  pub back-none : {v k : ℕ} → Back n start parent v k → k ≡ 0 → v ≡ start
+  back-none : {v k : ℕ} → Back n start parent v k → k ≡ 0 → v ≡ start
   back-none root e = refl
   back-none (leg m h r) e = absurd (omega arith)
 

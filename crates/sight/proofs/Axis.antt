@@ -18,11 +18,11 @@ module _ (a b s : ℕ) where
   unfolding cellAt
   cell-down h = rw (le-ltb a b h)
 
-  pub vertex-up : a < b → vertexAt a b s ≡ a + s
+  vertex-up : a < b → vertexAt a b s ≡ a + s
   unfolding vertexAt
   vertex-up h = rw (lt-ltb a b h)
 
-  pub vertex-down : b ≤ a → vertexAt a b s ≡ a - s
+  vertex-down : b ≤ a → vertexAt a b s ≡ a - s
   unfolding vertexAt
   vertex-down h = rw (le-ltb a b h)
 

@@ -1,6 +1,6 @@
 -- Which cells a leg crosses, counted in columns and rows from its first end. Assumes nothing.
 use Prim.Native.Nat.{ℕ, _+_, _*_, _≤_, _<_, min, max}
-use mathlib.Core.Path.{_≡_, sym, ap, _∙_}
+use mathlib.Core.Path.{_≡_, sym, _∙_}
 use mathlib.Core.Logic.{_⊎_, inl, inr, ⊎-elim}
 use mathlib.Core.Bool.{Bool, true, _&&_}
 use native.Mathlib.Nat.{mul-le-mul-left}
@@ -10,80 +10,54 @@ use lib.Dec.{ltb}
 use Rattle.laws.proofs.Tests.{order, and-both, and-left, and-right}
 use Rattle.sight.specs.Sight.{positive, negative, someCorner, spans, crossed}
 use Rattle.sight.specs.Leg.{far, vertexAt, cellAt}
-use Rattle.sight.proofs.Every.{CornerOf, corner-same, corner-of, corner-at}
+use Rattle.sight.proofs.Corners.{CornerOf, corner-same, corner-of, corner-at}
 use Rattle.sight.proofs.Axis.{Within, axis-corner, axis-within, axis-near, axis-next, axis-spans, axis-of}
 use Rattle.sight.proofs.Sides.{plus, minus, positive-is, negative-is}
 
--- ---- the side of a point s columns and t rows from the first end of a leg of n columns and m rows, by its four directions
+-- ---- by how far a point is over or under the leg, in each of its four directions
 
-module _ (ax ay bx by px py n m s t : ℕ) where
-  right-down : bx ≡ ax + n → by ≡ ay + m → px ≡ ax + s → py ≡ ay + t → plus ax ay bx by px py + m * s ≡ minus ax ay bx by px py + n * t
-  unfolding plus minus
-  right-down e f g h = rw (e, f, g, h) (omega arith)
+-- the product of two differences, both the same way
+areas : (x y z w n t : ℕ) → x ≡ y + n → z ≡ w + t → x * z + y * w ≡ x * w + y * z + n * t
+areas x y z w n t e f = rw (e, f) (omega arith)
 
-  left-up : ax ≡ bx + n → ay ≡ by + m → ax ≡ px + s → ay ≡ py + t → plus ax ay bx by px py + m * s ≡ minus ax ay bx by px py + n * t
-  unfolding plus minus
-  left-up e f g h =
-      omega (
-        arith,
-        ap (λ (z : ℕ). z * py) e,
-        ap (λ (z : ℕ). bx * z) h,
-        ap (λ (z : ℕ). z * ay) e,
-        ap (λ (z : ℕ). n * z) h,
-        ap (λ (z : ℕ). z * px) f,
-        ap (λ (z : ℕ). by * z) g,
-        ap (λ (z : ℕ). z * ax) f,
-        ap (λ (z : ℕ). m * z) g,
-      )
-
-  right-up : bx ≡ ax + n → ay ≡ by + m → px ≡ ax + s → ay ≡ py + t → minus ax ay bx by px py + m * s ≡ plus ax ay bx by px py + n * t
-  unfolding plus minus
-  right-up e f g h =
-      omega (
-        arith,
-        ap (λ (z : ℕ). z * py) e,
-        ap (λ (z : ℕ). bx * z) h,
-        ap (λ (z : ℕ). z * ay) e,
-        ap (λ (z : ℕ). n * z) h,
-        ap (λ (z : ℕ). ax * z) h,
-        ap (λ (z : ℕ). z * px) f,
-        ap (λ (z : ℕ). by * z) g,
-        ap (λ (z : ℕ). z * ax) f,
-        ap (λ (z : ℕ). m * z) g,
-        ap (λ (z : ℕ). ay * z) g,
-      )
-
-  left-down : ax ≡ bx + n → by ≡ ay + m → ax ≡ px + s → py ≡ ay + t → minus ax ay bx by px py + m * s ≡ plus ax ay bx by px py + n * t
-  unfolding plus minus
-  left-down e f g h =
-      omega (
-        arith,
-        ap (λ (z : ℕ). z * py) e,
-        ap (λ (z : ℕ). bx * z) h,
-        ap (λ (z : ℕ). z * ay) e,
-        ap (λ (z : ℕ). n * z) h,
-        ap (λ (z : ℕ). ax * z) h,
-        ap (λ (z : ℕ). z * px) f,
-        ap (λ (z : ℕ). by * z) g,
-        ap (λ (z : ℕ). z * ax) f,
-        ap (λ (z : ℕ). m * z) g,
-        ap (λ (z : ℕ). ay * z) g,
-      )
-
--- what is added to the side and what is taken away, or the other way round: by how far the point is over or under the leg
+-- what is added to the side and what is taken away, or the other way round
 abbrev Height : (over under : ℕ → ℕ → ℕ) (ax ay bx by : ℕ) → Type 0
 Height over under ax ay bx by =
     (px py : ℕ) → Within ax bx px → Within ay by py → over px py + far ay by * far ax px ≡ under px py + far ax bx * far ay py
 
-pub heights : (ax ay bx by : ℕ) → Height (plus ax ay bx by) (minus ax ay bx by) ax ay bx by ⊎ Height (minus ax ay bx by) (plus ax ay bx by) ax ay bx by
+heights : (ax ay bx by : ℕ) → Height (plus ax ay bx by) (minus ax ay bx by) ax ay bx by ⊎ Height (minus ax ay bx by) (plus ax ay bx by) ax ay bx by
+unfolding plus minus
 heights ax ay bx by =
     ⊎-elim
     (λ (l : ax < bx). ⊎-elim
-    (λ (k : ay < by). inl (λ px py X Y. right-down ax ay bx by px py (far ax bx) (far ay by) (far ax px) (far ay py) (omega arith) (omega arith) (omega arith) (omega arith)))
-    (λ (k : by ≤ ay). inr (λ px py X Y. right-up ax ay bx by px py (far ax bx) (far ay by) (far ax px) (far ay py) (omega arith) (omega arith) (omega arith) (omega arith))) (order ay by))
+    (λ (k : ay < by). inl (λ px py X Y. omega (
+      arith,
+      areas bx ax py ay (far ax bx) (far ay py) (omega arith) (omega arith),
+      areas by ay px ax (far ay by) (far ax px) (omega arith) (omega arith),
+    )))
+    (λ (k : by ≤ ay). inr (λ px py X Y. omega (
+      arith,
+      areas bx ax ay py (far ax bx) (far ay py) (omega arith) (omega arith),
+      areas ay by px ax (far ay by) (far ax px) (omega arith) (omega arith),
+    )))
+    (order ay by))
     (λ (l : bx ≤ ax). ⊎-elim
-    (λ (k : ay < by). inr (λ px py X Y. left-down ax ay bx by px py (far ax bx) (far ay by) (far ax px) (far ay py) (omega arith) (omega arith) (omega arith) (omega arith)))
-    (λ (k : by ≤ ay). inl (λ px py X Y. left-up ax ay bx by px py (far ax bx) (far ay by) (far ax px) (far ay py) (omega arith) (omega arith) (omega arith) (omega arith))) (order ay by)) (order ax bx)
+    (λ (k : ay < by). inr (λ px py X Y. omega (
+      arith,
+      areas ax bx py ay (far ax bx) (far ay py) (omega arith) (omega arith),
+      areas by ay ax px (far ay by) (far ax px) (omega arith) (omega arith),
+    )))
+    (λ (k : by ≤ ay). inl (λ px py X Y. omega (
+      arith,
+      areas ax bx ay py (far ax bx) (far ay py) (omega arith) (omega arith),
+      areas ay by ax px (far ay by) (far ax px) (omega arith) (omega arith),
+    )))
+    (order ay by))
+    (order ax bx)
+
+-- a leg of n columns and m rows crosses the cell u columns and v rows from its first end exactly if both hold
+abbrev pub Crosses : (n m u v : ℕ) → Type 0
+Crosses n m u v = (m * u < n * (v + 1)) × (n * v < m * (u + 1))
 
 -- ---- the cell u columns and v rows from the first end: some corner over the leg, some corner under it
 
@@ -95,42 +69,53 @@ module _ (over under : ℕ → ℕ → ℕ) (ax ay bx by u v : ℕ) (hu : u < fa
   abbrev j : ℕ
   j = cellAt ay by v
 
-  law-at : (x y : ℕ) → CornerOf i j x y → over x y + far ay by * far ax x ≡ under x y + far ax bx * far ay y
-  law-at x y c = law x y (axis-within ax bx u hu x (c .left) (c .right)) (axis-within ay by v hv y (c .top) (c .bottom))
+  abbrev someOver : Bool
+  someOver = someCorner (λ (x y : ℕ). ltb (under x y) (over x y)) i j
 
-  over-out : someCorner (λ (x y : ℕ). ltb (under x y) (over x y)) i j ≡ true → far ay by * u < far ax bx * (v + 1)
-  over-out h =
-      let (x, y, c, p) = corner-of _ _ _ h in
+  abbrev someUnder : Bool
+  someUnder = someCorner (λ (x y : ℕ). ltb (over x y) (under x y)) i j
+
+  law-at : {x y : ℕ} → CornerOf i j x y → over x y + far ay by * far ax x ≡ under x y + far ax bx * far ay y
+  law-at {x} {y} c = law x y (axis-within ax bx u hu x (c .left) (c .right)) (axis-within ay by v hv y (c .top) (c .bottom))
+
+  -- a corner is no nearer than the cell, and at most one step on
+  steps-at : {x y : ℕ} → CornerOf i j x y
+      → ((far ay by * u ≤ far ay by * far ax x) × (far ay by * far ax x ≤ far ay by * (u + 1)))
+      × ((far ax bx * v ≤ far ax bx * far ay y) × (far ax bx * far ay y ≤ far ax bx * (v + 1)))
+  steps-at {x} {y} c =
       let X = axis-corner ax bx u hu x (c .left) (c .right) in
       let Y = axis-corner ay by v hv y (c .top) (c .bottom) in
-      omega (arith, law-at x y c, ltb-true (under x y) (over x y) p, mul-le-mul-left (far ay by) (X .0), mul-le-mul-left (far ax bx) (Y .1))
+      ((mul-le-mul-left (far ay by) (X .0), mul-le-mul-left (far ay by) (X .1)), (mul-le-mul-left (far ax bx) (Y .0), mul-le-mul-left (far ax bx) (Y .1)))
 
-  under-out : someCorner (λ (x y : ℕ). ltb (over x y) (under x y)) i j ≡ true → far ax bx * v < far ay by * (u + 1)
-  under-out h =
+  sides-out : someOver ≡ true → someUnder ≡ true → Crosses (far ax bx) (far ay by) u v
+  sides-out h k =
       let (x, y, c, p) = corner-of _ _ _ h in
-      let X = axis-corner ax bx u hu x (c .left) (c .right) in
-      let Y = axis-corner ay by v hv y (c .top) (c .bottom) in
-      omega (arith, law-at x y c, ltb-true (over x y) (under x y) p, mul-le-mul-left (far ay by) (X .1), mul-le-mul-left (far ax bx) (Y .0))
+      let (x′, y′, c′, q) = corner-of _ _ _ k in
+      (omega (arith, law-at c, steps-at c, ltb-true (under x y) (over x y) p), omega (arith, law-at c′, steps-at c′, ltb-true (over x′ y′) (under x′ y′) q))
 
-  over-in : far ay by * u < far ax bx * (v + 1) → someCorner (λ (x y : ℕ). ltb (under x y) (over x y)) i j ≡ true
+  -- a corner p columns and q rows from the first end
+  corner-on : (x y : ℕ) {p q : ℕ} → (i ≤ x) × (x ≤ i + 1) × (far ax x ≡ p) → (j ≤ y) × (y ≤ j + 1) × (far ay y ≡ q)
+      → CornerOf i j x y × (over x y + far ay by * p ≡ under x y + far ax bx * q)
+  corner-on x y X Y =
+      let c : CornerOf i j x y = record { left = X .0; right = X .1; top = Y .0; bottom = Y .1 } in
+      (c, rw (← X .2, ← Y .2) (law-at c))
+
+  over-in : far ay by * u < far ax bx * (v + 1) → someOver ≡ true
   over-in h =
-      let x : ℕ = vertexAt ax bx u in
-      let y : ℕ = vertexAt ay by (v + 1) in
-      let X = axis-near ax bx u hu in
-      let Y = axis-next ay by v hv in
-      let c : CornerOf i j x y = record { left = X .0; right = X .1; top = Y .0; bottom = Y .1 } in
-      corner-at _ _ _ x y c
-      (lt-ltb (under x y) (over x y) (omega (arith, law-at x y c, ap (λ (z : ℕ). far ay by * z) (X .2), ap (λ (z : ℕ). far ax bx * z) (Y .2))))
+      let x = vertexAt ax bx u in
+      let y = vertexAt ay by (v + 1) in
+      let (c, e) = corner-on x y (axis-near ax bx u hu) (axis-next ay by v hv) in
+      corner-at _ _ _ x y c (lt-ltb (under x y) (over x y) (omega arith))
 
-  under-in : far ax bx * v < far ay by * (u + 1) → someCorner (λ (x y : ℕ). ltb (over x y) (under x y)) i j ≡ true
+  under-in : far ax bx * v < far ay by * (u + 1) → someUnder ≡ true
   under-in h =
-      let x : ℕ = vertexAt ax bx (u + 1) in
-      let y : ℕ = vertexAt ay by v in
-      let X = axis-next ax bx u hu in
-      let Y = axis-near ay by v hv in
-      let c : CornerOf i j x y = record { left = X .0; right = X .1; top = Y .0; bottom = Y .1 } in
-      corner-at _ _ _ x y c
-      (lt-ltb (over x y) (under x y) (omega (arith, law-at x y c, ap (λ (z : ℕ). far ay by * z) (X .2), ap (λ (z : ℕ). far ax bx * z) (Y .2))))
+      let x = vertexAt ax bx (u + 1) in
+      let y = vertexAt ay by v in
+      let (c, e) = corner-on x y (axis-next ax bx u hu) (axis-near ay by v hv) in
+      corner-at _ _ _ x y c (lt-ltb (over x y) (under x y) (omega arith))
+
+  sides-in : Crosses (far ax bx) (far ay by) u v → (someOver ≡ true) × (someUnder ≡ true)
+  sides-in h = (over-in (h .0), under-in (h .1))
 
 -- ---- what a crossing says, part by part
 
@@ -169,10 +154,6 @@ module _ (ax ay bx by i j : ℕ) where
 
 -- ---- the two tests
 
--- a leg of n columns and m rows crosses the cell u columns and v rows from its first end exactly if both hold
-abbrev pub Crosses : (n m u v : ℕ) → Type 0
-Crosses n m u v = (m * u < n * (v + 1)) × (n * v < m * (u + 1))
-
 module _ (ax ay bx by u v : ℕ) (hu : u < far ax bx) (hv : v < far ay by) where
   abbrev x : ℕ
   x = cellAt ax bx u
@@ -186,15 +167,15 @@ module _ (ax ay bx by u v : ℕ) (hu : u < far ax bx) (hv : v < far ay by) where
       let p = sym (some-positive ax ay bx by x y) ∙ p₀ in
       let q = sym (some-negative ax ay bx by x y) ∙ q₀ in
       ⊎-elim
-      (λ law. (over-out (plus ax ay bx by) (minus ax ay bx by) ax ay bx by u v hu hv law p, under-out (plus ax ay bx by) (minus ax ay bx by) ax ay bx by u v hu hv law q))
-      (λ law. (over-out (minus ax ay bx by) (plus ax ay bx by) ax ay bx by u v hu hv law q, under-out (minus ax ay bx by) (plus ax ay bx by) ax ay bx by u v hu hv law p))
+      (λ law. sides-out (plus ax ay bx by) (minus ax ay bx by) ax ay bx by u v hu hv law p q)
+      (λ law. sides-out (minus ax ay bx by) (plus ax ay bx by) ax ay bx by u v hu hv law q p)
       (heights ax ay bx by)
 
-  sides-in : Crosses (far ax bx) (far ay by) u v → (someCorner (positive ax ay bx by) x y && someCorner (negative ax ay bx by) x y) ≡ true
-  sides-in h =
+  both-sides : Crosses (far ax bx) (far ay by) u v → (someCorner (positive ax ay bx by) x y && someCorner (negative ax ay bx by) x y) ≡ true
+  both-sides h =
       rw (some-positive ax ay bx by x y, some-negative ax ay bx by x y) (⊎-elim
-      (λ law. and-both (over-in (plus ax ay bx by) (minus ax ay bx by) ax ay bx by u v hu hv law (h .0)) (under-in (plus ax ay bx by) (minus ax ay bx by) ax ay bx by u v hu hv law (h .1)))
-      (λ law. and-both (under-in (minus ax ay bx by) (plus ax ay bx by) ax ay bx by u v hu hv law (h .1)) (over-in (minus ax ay bx by) (plus ax ay bx by) ax ay bx by u v hu hv law (h .0)))
+      (λ law. let (p, q) = sides-in (plus ax ay bx by) (minus ax ay bx by) ax ay bx by u v hu hv law h in and-both p q)
+      (λ law. let (q, p) = sides-in (minus ax ay bx by) (plus ax ay bx by) ax ay bx by u v hu hv law h in and-both p q)
       (heights ax ay bx by))
 
   pub cross-in : Crosses (far ax bx) (far ay by) u v → crossed ax ay bx by x y ≡ true
@@ -202,5 +183,5 @@ module _ (ax ay bx by u v : ℕ) (hu : u < far ax bx) (hv : v < far ay by) where
   cross-in h =
       let X = axis-spans ax bx u hu in
       let Y = axis-spans ay by v hv in
-      and-both (sides-in h)
+      and-both (both-sides h)
       (and-both (and-both (lt-ltb _ _ (X .0)) (lt-ltb _ _ (X .1))) (and-both (lt-ltb _ _ (Y .0)) (lt-ltb _ _ (Y .1))))

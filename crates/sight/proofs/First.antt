@@ -1,15 +1,14 @@
--- The first stop of a row of them. Assumes nothing.
-use Prim.Native.Nat.{ℕ, zero, suc, _<_}
+-- The first stop of a leg: none where each is clear, the first that is not, and whether there is one. Assumes nothing.
+use Prim.Native.Nat.{ℕ, zero, suc, _≤_, _<_}
 use mathlib.Core.Path.{_≡_, refl, _∙_}
 use mathlib.Core.Logic.{⊎-elim}
 use mathlib.Core.Bool.{Bool, true, false, not, _&&_, cond, true≢false}
-use native.Mathlib.Nat.{eq-or-lt-of-le}
 use native.Mathlib.Omega.{arith}
+use Rattle.laws.specs.Below.{every}
+use Rattle.laws.proofs.Tests.{order}
 use Rattle.sight.specs.declared.Stop.{Stop}
 use Rattle.sight.specs.declared.Stop.the-variants.{Clear, Cell, Edge}
-use Rattle.sight.specs.Sight.{every}
 use Rattle.sight.specs.Stops.{isClear, orElse, firstOf, edgeFrom}
-use Rattle.sight.proofs.Every.{last}
 
 stop-stays : (s t : Stop) → isClear s ≡ false → orElse s t ≡ s
 stop-stays Clear t h = absurd (true≢false h)
@@ -32,8 +31,10 @@ pub first-at : (n : ℕ) (f : ℕ → Stop) (k : ℕ) (s : Stop) → k < n → (
 unfolding firstOf
 first-at zero f k s l h e q = absurd (omega arith)
 first-at (suc n) f k s l h e q =
-    ⊎-elim (λ (p : k ≡ n). rw (first-clear n f (λ j m. h j (omega arith))) (rw p at e))
-    (λ (m : k < n). rw (first-at n f k s m h e q) (stop-stays s (f n) q)) (eq-or-lt-of-le (last k n l))
+    ⊎-elim
+    (λ (m : k < n). rw (first-at n f k s m h e q) (stop-stays s (f n) q))
+    (λ (m : n ≤ k). let p : k ≡ n = omega arith in rw (first-clear n f (λ j b. h j (omega arith))) (rw p at e))
+    (order k n)
 
 -- whether something stops it
 pub first-every : (n : ℕ) (f : ℕ → Stop) (g : ℕ → Bool) → ((k : ℕ) → isClear (f k) ≡ g k) → isClear (firstOf n f) ≡ every n g

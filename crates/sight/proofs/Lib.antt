@@ -1,4 +1,4 @@
-pub mod Every
+pub mod Corners
 pub mod Axis
 pub mod Sides
 pub mod Crossing

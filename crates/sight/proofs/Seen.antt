@@ -6,13 +6,14 @@ use mathlib.Core.Bool.{Bool, true, false, not, _&&_, and-true, false≢true}
 use native.Mathlib.Omega.{arith}
 use borrow.Author.Tests.{lt-ltb, le-leb, ltb-true, leb-true, eqb-true, eq-eqb, not-true}
 use lib.Dec.{ltb, leb, eqb}
+use Rattle.laws.specs.Below.{every}
+use Rattle.laws.proofs.Below.{every-at, every-of}
 use Rattle.laws.proofs.Tests.{and-both, and-left, and-right, not-both, same-test, not-of}
 use Rattle.board.specs.Board.{Board, blocked}
 use Rattle.sight.specs.declared.Stop.the-variants.{Cell}
-use Rattle.sight.specs.Sight.{crossed, rowWall, columnWall, between, every, cellsFree, edgesOpen, sees}
+use Rattle.sight.specs.Sight.{crossed, rowWall, columnWall, between, cellsFree, edgesOpen, sees}
 use Rattle.sight.specs.Leg.{Ends, far, cellAt, vertexAt}
 use Rattle.sight.specs.Stops.{isClear, cellStop, columnStop, cellsStop, walled, edgeFrom, edgeStop, edgesStop, firstStop}
-use Rattle.sight.proofs.Every.{every-at, every-of}
 use Rattle.sight.proofs.Axis.{axis-spans, axis-on, axis-of}
 use Rattle.sight.proofs.Crossing.{cross-placed}
 use Rattle.sight.proofs.First.{first-every, cond-clear, edge-stops}
@@ -48,23 +49,23 @@ between-parts p q wall k h =
 -- no edge lies between equal ends
 no-edge : (p q size : ℕ) (wall : ℕ → Bool) → p ≡ q → every size (λ (k : ℕ). not (between p q k && wall k)) ≡ true
 no-edge p q size wall e =
-    every-of size _ (λ k l. not-of (between p q k && wall k) (λ w.
+    every-of _ size (λ k l. not-of (between p q k && wall k) (λ w.
     let d = between-parts p q wall k w in
     omega (arith, d .0, d .1)))
 
 module _ (p q size : ℕ) (wall : ℕ → Bool) (hp : p ≤ size) (hq : q ≤ size) where
-  pub steps-every : every size (λ (k : ℕ). not (between p q k && wall k)) ≡ every (far p q) (λ (u : ℕ). not (wall (cellAt p q u)))
+  steps-every : every size (λ (k : ℕ). not (between p q k && wall k)) ≡ every (far p q) (λ (u : ℕ). not (wall (cellAt p q u)))
   unfolding between
   steps-every =
       same-test _ _
-      (λ h. every-of (far p q) _ (λ u l. not-of (wall (cellAt p q u)) (λ w.
+      (λ h. every-of _ (far p q) (λ u l. not-of (wall (cellAt p q u)) (λ w.
       let s = axis-spans p q u l in
-      not-both (between p q (cellAt p q u)) (wall (cellAt p q u)) (every-at size _ h (cellAt p q u) (axis-on p q u l size hp hq))
+      not-both (between p q (cellAt p q u)) (wall (cellAt p q u)) (every-at _ size h (cellAt p q u) (axis-on p q u l size hp hq))
       (and-both (le-leb (min p q) (cellAt p q u) (omega (arith, s .0))) (lt-ltb (cellAt p q u) (max p q) (s .1))) w)))
-      (λ h. every-of size _ (λ k l. not-of (between p q k && wall k) (λ w.
+      (λ h. every-of _ size (λ k l. not-of (between p q k && wall k) (λ w.
       let d = between-parts p q wall k w in
       let o = axis-of p q k (omega (arith, d .0)) (d .1) in
-      let n : not (wall k) ≡ true = subst (λ (z : ℕ). not (wall z) ≡ true) (o .2) (every-at (far p q) _ h (o .0) (o .1)) in
+      let n : not (wall k) ≡ true = subst (λ (z : ℕ). not (wall z) ≡ true) (o .2) (every-at _ (far p q) h (o .0) (o .1)) in
       false≢true (sym (not-true (wall k) n) ∙ d .2))))
 
 -- ---- the leg
@@ -73,7 +74,7 @@ module _ (p q size : ℕ) (wall : ℕ → Bool) (hp : p ≤ size) (hq : q ≤ si
 axis-free : (b : Board) (ax ay bx by : ℕ) → (ax ≡ bx) ⊎ (ay ≡ by) → cellsFree b ax ay bx by ≡ true
 unfolding cellsFree
 axis-free b ax ay bx by z =
-    every-of (b .height) _ (λ j hj. every-of (b .width) _ (λ i hi. not-of (crossed ax ay bx by i j && blocked b i j) (λ q.
+    every-of _ (b .height) (λ j hj. every-of _ (b .width) (λ i hi. not-of (crossed ax ay bx by i j && blocked b i j) (λ q.
     let o = cross-placed ax ay bx by i j (and-left (crossed ax ay bx by i j) (blocked b i j) q) in
     ⊎-elim (λ (e : ax ≡ bx). omega (arith, o .0 .1)) (λ (e : ay ≡ by). omega (arith, o .1 .1)) z)))
 
@@ -83,18 +84,18 @@ module _ (b : Board) (ax ay bx by : ℕ) (on : Ends b ax ay bx by) where
   cells-same =
       same-test _ _
       (λ e. subst (λ (t : Bool). t ≡ true) (sym (cells-every b ax ay bx by))
-      (every-of (far ax bx) _ (λ u hu. every-of (far ay by) _ (λ v hv.
-      every-at (b .width) _
-      (every-at (b .height) _ e (cellAt ay by v) (axis-on ay by v hv (b .height) (on .first .y-on) (on .second .y-on)))
+      (every-of _ (far ax bx) (λ u hu. every-of _ (far ay by) (λ v hv.
+      every-at _ (b .width)
+      (every-at _ (b .height) e (cellAt ay by v) (axis-on ay by v hv (b .height) (on .first .y-on) (on .second .y-on)))
       (cellAt ax bx u) (axis-on ax bx u hu (b .width) (on .first .x-on) (on .second .x-on))))))
       (λ e. let f = subst (λ (t : Bool). t ≡ true) (cells-every b ax ay bx by) e in
-      every-of (b .height) _ (λ j hj. every-of (b .width) _ (λ i hi. not-of (crossed ax ay bx by i j && blocked b i j) (λ q.
+      every-of _ (b .height) (λ j hj. every-of _ (b .width) (λ i hi. not-of (crossed ax ay bx by i j && blocked b i j) (λ q.
       let x = and-left (crossed ax ay bx by i j) (blocked b i j) q in
       let y = and-right (crossed ax ay bx by i j) (blocked b i j) q in
       let o = cross-placed ax ay bx by i j x in
       not-both (crossed ax ay bx by i j) (blocked b i j)
       (subst₂ (λ (i j : ℕ). not (crossed ax ay bx by i j && blocked b i j) ≡ true) (o .0 .2) (o .1 .2)
-      (every-at (far ay by) _ (every-at (far ax bx) _ f (o .0 .0) (o .0 .1)) (o .1 .0) (o .1 .1))) x y))))
+      (every-at _ (far ay by) (every-at _ (far ax bx) f (o .0 .0) (o .0 .1)) (o .1 .0) (o .1 .1))) x y))))
 
   row-same : every (b .width) (λ (x : ℕ). not (between ax bx x && rowWall b x ay)) ≡ isClear (edgesStop b true ay ax bx)
   unfolding walled

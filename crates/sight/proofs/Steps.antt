@@ -6,9 +6,10 @@ use mathlib.Core.Bool.{Bool, true, false, not, _&&_}
 use native.Mathlib.Omega.{arith}
 use borrow.Author.Tests.{leb-true, eq-eqb, ne-eqb}
 use lib.Dec.{leb, eqb}
+use Rattle.laws.specs.Below.{every}
 use Rattle.laws.proofs.Tests.{order, and-left, and-right, not-both}
 use Rattle.board.specs.Board.{Board, blocked}
-use Rattle.sight.specs.Sight.{crossed, rowWall, columnWall, every, sees}
+use Rattle.sight.specs.Sight.{crossed, rowWall, columnWall, sees}
 use Rattle.sight.specs.Leg.{Ends, far, cellAt}
 use Rattle.sight.specs.Stops.{walled, firstStop}
 use Rattle.sight.specs.Neighbours.{close, neighbours}

@@ -5,10 +5,12 @@ use mathlib.Core.Bool.{Bool, true, false, not, _&&_, _||_, and-comm}
 use native.Mathlib.Omega.{arith}
 use lib.Dec.{eqb}
 use borrow.Author.Tests.{eqb-true, eq-eqb}
+use Rattle.laws.specs.Below.{every}
+use Rattle.laws.proofs.Below.{every-same}
 use Rattle.laws.proofs.Tests.{same-test}
 use Rattle.board.specs.Board.{Board}
-use Rattle.sight.specs.Sight.{positive, negative, someCorner, spans, crossed, rowWall, columnWall, between, every, cellsFree, edgesOpen, sees}
-use Rattle.sight.proofs.Every.{every-same, corner-same}
+use Rattle.sight.specs.Sight.{positive, negative, someCorner, spans, crossed, rowWall, columnWall, between, cellsFree, edgesOpen, sees}
+use Rattle.sight.proofs.Corners.{corner-same}
 use Rattle.sight.proofs.Sides.{positive-is, negative-is, turned}
 
 min-swap : (a b : ℕ) → min a b ≡ min b a
@@ -52,12 +54,12 @@ module _ (a b p q size : ℕ) (wall : ℕ → ℕ → Bool) where
   edges-swap = go (eqb a b) refl
     where
       go : (t : Bool) → eqb a b ≡ t → (not (eqb a b) || every size (λ (k : ℕ). not (between p q k && wall a k))) ≡ (not (eqb b a) || every size (λ (k : ℕ). not (between q p k && wall b k)))
-      go true e = rw (sym (eqb-swap a b), e, sym (eqb-true a b e)) (every-same size _ _ (λ k. rw (between-swap p q k)))
+      go true e = rw (sym (eqb-swap a b), e, sym (eqb-true a b e)) (every-same _ _ size (λ k. rw (between-swap p q k)))
       go false e = rw (sym (eqb-swap a b), e)
 
 pub sees-symmetric : (b : Board) (ax ay bx by : ℕ) → sees b ax ay bx by ≡ sees b bx by ax ay
 unfolding sees cellsFree edgesOpen
 sees-symmetric b ax ay bx by =
     let cells : cellsFree b ax ay bx by ≡ cellsFree b bx by ax ay =
-    every-same (b .height) _ _ (λ j. every-same (b .width) _ _ (λ i. rw (crossed-swap ax ay bx by i j))) in
+    every-same _ _ (b .height) (λ j. every-same _ _ (b .width) (λ i. rw (crossed-swap ax ay bx by i j))) in
     rw (cells, edges-swap ay by ax bx (b .width) (λ (y x : ℕ). rowWall b x y), edges-swap ax bx ay by (b .height) (λ (x y : ℕ). columnWall b x y))

@@ -1,18 +1,16 @@
--- Visible neighbours, as the search's theory asks for them. Assumes nothing.
+-- Visible neighbours are so both ways, never oneself, and on the board, as the search's theory asks. Assumes nothing.
 use Prim.Native.Nat.{ℕ, _+_, _<_}
-use mathlib.Core.Path.{_≡_, refl, _∙_}
+use mathlib.Core.Path.{_≡_, refl}
 use mathlib.Core.Bool.{Bool, true, false, _&&_, and-comm}
 use lib.Dec.{leb, ltb}
-use borrow.Author.Tests.{lt-ltb, ltb-true, eq-eqb}
+use borrow.Author.Tests.{ltb-true, eq-eqb}
 use Rattle.laws.proofs.Tests.{and-left, and-right, and-false}
-use Rattle.board.specs.Board.{Board, vertices, number, column, row}
+use Rattle.board.specs.Board.{Board, vertices, column, row}
 use Rattle.sight.specs.Sight.{sees}
-use Rattle.sight.specs.Leg.{Ends}
 use Rattle.sight.specs.Neighbours.{neighbours, visible}
-use Rattle.board.proofs.Numbers.{number-below, column-number, row-number, column-on, row-on}
 use Rattle.sight.proofs.Symmetric.{eqb-swap, sees-symmetric}
 
-pub neighbours-symmetric : (ax ay bx by : ℕ) → neighbours ax ay bx by ≡ neighbours bx by ax ay
+neighbours-symmetric : (ax ay bx by : ℕ) → neighbours ax ay bx by ≡ neighbours bx by ax ay
 unfolding neighbours
 neighbours-symmetric ax ay bx by =
     rw (
@@ -22,7 +20,7 @@ neighbours-symmetric ax ay bx by =
       and-comm (leb ay (by + 1)) (leb by (ay + 1)),
     )
 
-pub neighbours-irreflexive : (x y : ℕ) → neighbours x y x y ≡ false
+neighbours-irreflexive : (x y : ℕ) → neighbours x y x y ≡ false
 unfolding neighbours
 neighbours-irreflexive x y = rw (eq-eqb x x refl, eq-eqb y y refl)
 
@@ -42,9 +40,6 @@ module _ (b : Board) (start goal u v : ℕ) where
       let r = and-right inRange (nextTo && inSight) h in
       (and-left inRange (nextTo && inSight) h, and-left nextTo inSight r, and-right nextTo inSight r)
 
-  pub visible-first : visible b start goal u v ≡ true → u < vertices b
-  visible-first h = ltb-true u (vertices b) (and-left (ltb u (vertices b)) (ltb v (vertices b)) (parts h .0))
-
   pub visible-below : visible b start goal u v ≡ true → v < vertices b
   visible-below h = ltb-true v (vertices b) (and-right (ltb u (vertices b)) (ltb v (vertices b)) (parts h .0))
 
@@ -53,39 +48,6 @@ module _ (b : Board) (start goal u v : ℕ) where
 
   pub visible-sees : visible b start goal u v ≡ true → sees b (column b u) (row b u) (column b v) (row b v) ≡ true
   visible-sees h = parts h .2
-
-  pub visible-ends : visible b start goal u v ≡ true → Ends b (column b u) (row b u) (column b v) (row b v)
-  visible-ends h =
-      record {
-        first = record { x-on = column-on (b .width) u; y-on = row-on (b .width) (b .height) u (visible-first h) };
-        second = record { x-on = column-on (b .width) v; y-on = row-on (b .width) (b .height) v (visible-below h) };
-      }
-
--- ---- for the search's eight moves: of two vertices by their columns and rows
-
-module _ (b : Board) (start goal ax ay bx by : ℕ) (on : Ends b ax ay bx by) where
-  placed : visible b start goal (number b ax ay) (number b bx by) ≡ (neighbours ax ay bx by && sees b ax ay bx by)
-  unfolding visible
-  placed =
-      let w = b .width in
-      let first = lt-ltb (number b ax ay) (vertices b) (number-below w (b .height) ax ay (on .first .x-on) (on .first .y-on)) in
-      let second = lt-ltb (number b bx by) (vertices b) (number-below w (b .height) bx by (on .second .x-on) (on .second .y-on)) in
-      rw (
-        first,
-        second,
-        column-number w ax ay (on .first .x-on),
-        row-number w ax ay (on .first .x-on),
-        column-number w bx by (on .second .x-on),
-        row-number w bx by (on .second .x-on),
-      )
-
-  -- neighbours are visible neighbours exactly if they have sight
-  pub visible-step : neighbours ax ay bx by ≡ true → visible b start goal (number b ax ay) (number b bx by) ≡ sees b ax ay bx by
-  visible-step h = placed ∙ rw h
-
-  -- others never are
-  pub visible-apart : neighbours ax ay bx by ≡ false → visible b start goal (number b ax ay) (number b bx by) ≡ false
-  visible-apart h = placed ∙ rw h
 
 -- ---- the relation
 

@@ -1,7 +1,7 @@
 -- What the sight call hands back, in document 01's numbers: 1 for sight, 0 for none, or a refusal.
 use Prim.Native.Nat.{ℕ}
-use mathlib.Core.Bool.{Bool, true, false}
 use mathlib.Core.List.{[], _∷_}
+use Rattle.laws.specs.Below.{asNumber}
 use Rattle.board.specs.Board.{Board}
 use Rattle.board.specs.Paper.{Handed, answer, refusal, legRows}
 use Rattle.sight.specs.declared.Answer.{Answer}
@@ -16,10 +16,6 @@ handed Count = refusal 2 0
 handed (Byte at) = refusal 3 at
 handed First = refusal 4 0
 handed Second = refusal 5 0
-
-abbrev pub asNumber : Bool → ℕ
-asNumber true = 1
-asNumber false = 0
 
 -- the whole answer to a sight request
 unfoldable pub sightRow : Board → (ax ay bx by : ℕ) → Handed

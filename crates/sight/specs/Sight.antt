@@ -3,6 +3,7 @@ use Prim.Native.Nat.{ℕ, zero, suc, _+_, _-_, min, max}
 use mathlib.Core.Bool.{Bool, true, false, not, _&&_, _||_}
 use lib.Dec.{leb, ltb, eqb}
 use lib.IntN.{ℤ, pos, negsuc, _-ℤ_, _*ℤ_}
+use Rattle.laws.specs.Below.{every}
 use Rattle.board.specs.Board.{Board, blocked}
 
 -- ---- cells
@@ -40,11 +41,6 @@ spans ax ay bx by i j =
 unfoldable pub crossed : (ax ay bx by i j : ℕ) → Bool
 crossed ax ay bx by i j =
     (someCorner (positive ax ay bx by) i j && someCorner (negative ax ay bx by) i j) && spans ax ay bx by i j
-
--- the test holds of every number below n
-unfoldable pub every : ℕ → (ℕ → Bool) → Bool
-every zero test = true
-every (suc n) test = every n test && test n
 
 -- the leg crosses no blocked cell
 unfoldable pub cellsFree : Board → (ax ay bx by : ℕ) → Bool

@@ -1,11 +1,12 @@
 -- The worked rows hold, by computation; and so does net 1 of the example job. Assumes nothing.
 use mathlib.Core.Path.{_≡_, refl}
 use mathlib.Core.List.{[], _∷_}
-use Rattle.board.specs.Board.{board, blocked}
+use Rattle.laws.specs.Below.{every}
+use Rattle.board.specs.Board.{blocked}
 use Rattle.board.specs.Paper.{firstBad, boardRows, endRows}
 use Rattle.length.specs.Root.{root, rootIn}
 use Rattle.length.specs.Units.{unitsOf}
-use Rattle.sight.specs.Sight.{side, positive, negative, someCorner, spans, crossed, every, cellsFree, rowWall, columnWall, between, edgesOpen, sees}
+use Rattle.sight.specs.Sight.{side, positive, negative, someCorner, spans, crossed, cellsFree, rowWall, columnWall, between, edgesOpen, sees}
 use Rattle.sight.specs.Neighbours.{neighbours, visible}
 use Rattle.reach.specs.Turns.{turns}
 use Rattle.search.specs.Search.{initial, sooner, better, least, choose, around, close, expand, search, trail, path}

@@ -1,10 +1,9 @@
 -- `board::check_board` answers by the rows 1 to 3.
-use mathlib.Core.Path.{_≡_, sym, _∙_}
+use mathlib.Core.Path.{_≡_, sym}
 use mathlib.Core.Bool.{true, _&&_}
 use native.Mathlib.Omega.{arith}
 use borrow.Author.Needs.{needs}
-use borrow.Author.Tests.{not-true, not-false}
-use Rattle.laws.proofs.Tests.{and-both}
+use Rattle.laws.proofs.Tests.{and-both, answered-no, answered-yes}
 use Rattle.board.specs.Paper.{sideFits}
 use Rattle.board.proofs.Rows.{rows-width, rows-height, rows-count, rows-byte, rows-pass, cells-few}
 use Rattle.board.proofs.check_board.Statement.{statement}
@@ -14,19 +13,19 @@ side-fits-requires : tie.Need-side-fits-requires
 side-fits-requires c κs = search needs
 
 returns : tie.Need-returns
-returns c = sym (rows-width _ _ (sym (c .before .side-fits .ensures) ∙ not-true _ (c .if1 .taken)))
+returns c = sym (rows-width _ _ (answered-no (c .before .side-fits .ensures) (c .if1 .taken)))
 
 side-fits-requires-2 : tie.Need-side-fits-requires-2
 side-fits-requires-2 c κs = search needs
 
 returns-2 : tie.Need-returns-2
-returns-2 c = sym (rows-height _ _ (sym (c .before .side-fits2 .ensures) ∙ not-true _ (c .if2 .taken)))
+returns-2 c = sym (rows-height _ _ (answered-no (c .before .side-fits2 .ensures) (c .if2 .taken)))
 
 width-fits : (c : tie.Else2) → sideFits (c .before .before .before .before .before .args .width) ≡ true
-width-fits c = sym (c .before .before .before .side-fits .ensures) ∙ not-false _ (c .before .before .if1 .left)
+width-fits c = answered-yes (c .before .before .before .side-fits .ensures) (c .before .before .if1 .left)
 
 height-fits : (c : tie.Else2) → sideFits (c .before .before .before .before .before .args .height) ≡ true
-height-fits c = sym (c .before .side-fits2 .ensures) ∙ not-false _ (c .if2 .left)
+height-fits c = answered-yes (c .before .side-fits2 .ensures) (c .if2 .left)
 
 -- both sides fit, once both tests are passed
 sides : (c : tie.Else2)

@@ -1,19 +1,14 @@
 -- `board::check_leg` answers by the rows 1 to 5.
 use mathlib.Core.Path.{_≡_, sym, ap, _∙_}
-use mathlib.Core.Bool.{true}
 use borrow.Author.Needs.{needs}
-use borrow.Author.Tests.{not-true, not-false}
+use Rattle.laws.proofs.Tests.{answered-no, answered-yes}
 use denote.Ref.{now}
-use Rattle.board.specs.Board.{Board, board, isVertex}
-use Rattle.board.specs.Paper.{Handed, handed, accepted, boardRows, endRows, legRows}
+use Rattle.board.specs.Board.{Board, board}
+use Rattle.board.specs.Paper.{Handed, handed, boardRows}
 use Rattle.board.proofs.Rows.{is-refusal, board-screen, ends-first, ends-second, ends-pass}
 use Rattle.board.proofs.Screens.{accepted-on, refused-on}
 use Rattle.board.proofs.check_leg.Statement.{statement}
 use Rattle.board.proofs.check_leg.Tie as tie
-use Rattle.board.proofs.check_leg.Reads as reads
-use Rattle.board.proofs.check_leg.Lts as lts
-use Rattle.board.proofs.check_board.Reads as check-board-reads
-use Rattle.board.proofs.inner.is_vertex.Reads as is-vertex-reads
 
 -- the board that the call is given
 abbrev asked : tie.After-enum-told → Board
@@ -28,7 +23,7 @@ enum-told c = search needs
 returns : tie.Need-returns
 returns c =
     let e = c .before .check-board .ensures in
-    let (n, p, r) = is-refusal (c .before .check-board .result) (c .match .keys2) in
+    let (n, p, r, l) = is-refusal (c .before .check-board .result) (c .match .keys2) in
     r ∙ sym (refused-on _ (board-screen _) n p (sym e ∙ r) _)
 
 -- the board is accepted, so its ends decide
@@ -43,7 +38,7 @@ is-vertex-requires c κs = search needs
 returns-2 : tie.Need-returns-2
 returns-2 c =
     let k = c .before .before in
-    sym (board-passes k _ ∙ ends-first (asked k) _ _ _ _ _ (sym (c .before .is-vertex .ensures) ∙ not-true _ (c .if1 .taken)))
+    sym (board-passes k _ ∙ ends-first (asked k) _ _ _ _ _ (answered-no (c .before .is-vertex .ensures) (c .if1 .taken)))
 
 is-vertex-requires-2 : tie.Need-is-vertex-requires-2
 is-vertex-requires-2 c κs = search needs
@@ -51,14 +46,14 @@ is-vertex-requires-2 c κs = search needs
 returns-3 : tie.Need-returns-3
 returns-3 c =
     let k = c .before .before .before .before in
-    let first = sym (c .before .before .before .is-vertex .ensures) ∙ not-false _ (c .before .before .if1 .left) in
-    sym (board-passes k _ ∙ ends-second (asked k) _ _ _ _ _ first (sym (c .before .is-vertex2 .ensures) ∙ not-true _ (c .if2 .taken)))
+    let first = answered-yes (c .before .before .before .is-vertex .ensures) (c .before .before .if1 .left) in
+    sym (board-passes k _ ∙ ends-second (asked k) _ _ _ _ _ first (answered-no (c .before .is-vertex2 .ensures) (c .if2 .taken)))
 
 returns-4 : tie.Need-returns-4
 returns-4 c =
     let k = c .before .before .before .before in
-    let first = sym (c .before .before .before .is-vertex .ensures) ∙ not-false _ (c .before .before .if1 .left) in
-    sym (board-passes k _ ∙ ends-pass (asked k) _ _ _ _ _ first (sym (c .before .is-vertex2 .ensures) ∙ not-false _ (c .if2 .left)))
+    let first = answered-yes (c .before .before .before .is-vertex .ensures) (c .before .before .if1 .left) in
+    sym (board-passes k _ ∙ ends-pass (asked k) _ _ _ _ _ first (answered-yes (c .before .is-vertex2 .ensures) (c .if2 .left)))
 
 pub check-leg-spec : {M : Type 1} → statement M
 check-leg-spec =

@@ -1,14 +1,12 @@
 -- `router::search_route` searches, and tells the path that it found.
-use mathlib.Core.Path.{_≡_, sym, ap, _∙_}
-use mathlib.Core.Bool.{true}
 use native.Mathlib.Omega.{arith}
 use borrow.Author.Needs.{needs}
 use borrow.Author.Tests.{not-true, not-false}
 use denote.Ref.{now}
-use Rattle.board.specs.Board.{Board, board, number}
+use Rattle.board.specs.Board.{Board, board}
 use Rattle.board.proofs.Numbers.{number-below}
 use Rattle.search.specs.Search as theta
-use Rattle.search.specs.Demands.{Work, Searched}
+use Rattle.search.specs.Demands.{Work}
 use Rattle.search.specs.Request.{problem}
 use Rattle.search.proofs.Theorems.{board-work, found-traced, found-path, found-units, found-exact}
 use Rattle.router.proofs.Routing.{as-found, g-room, ran-none, ran-told}

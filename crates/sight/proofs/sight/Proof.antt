@@ -1,13 +1,16 @@
 -- `sight::sight` answers by the rows 1 to 5, and then by the definition of sight.
-use mathlib.Core.Path.{_≡_, sym, ap, _∙_}
+use mathlib.Core.Path.{_≡_, refl, sym, ap, _∙_}
 use mathlib.Core.Bool.{Bool, true, false}
 use mathlib.Core.List.{[], _∷_}
+use Prim.Native.Nat.{ℕ, suc}
 use borrow.Author.Needs.{needs}
 use denote.Ref.{now}
+use Rattle.laws.specs.Below.{asNumber}
 use Rattle.board.specs.Board.{Board, board}
-use Rattle.board.specs.Paper.{accepted, answer, legRows}
+use Rattle.board.specs.declared.Checked.{Checked}
+use Rattle.board.specs.Paper.{refusal, accepted, answer, legRows}
 use Rattle.board.specs.Paper as paper
-use Rattle.sight.specs.Paper.{asNumber, sightRow}
+use Rattle.sight.specs.Paper.{sightRow}
 use Rattle.board.proofs.Rows.{leg-sound, leg-first, leg-second, leg-accepted, leg-refusal}
 use Rattle.sight.proofs.sight.Statement.{statement}
 use Rattle.sight.proofs.sight.Tie as tie
@@ -47,35 +50,26 @@ sees-requires : tie.Need-sees-requires
 sees-requires c κs =
     (leg-sound _ _ _ _ _ (passes c), record { first = leg-first _ _ _ _ _ (passes c); second = leg-second _ _ _ _ _ (passes c) })
 
-returns : tie.Need-returns
+-- a check that refuses the leg refuses it here
+refused : (b : Board) (ax ay bx by : ℕ) {n p : ℕ} {r s : Checked} → r ≡ s → paper.handed r ≡ legRows b ax ay bx by accepted → paper.handed s ≡ refusal (suc n) p
+    → refusal (suc n) p ≡ sightRow b ax ay bx by
 unfolding sightRow
-returns c =
-    let k = c .before .before in
-    sym (leg-refusal _ _ _ _ _ _ _ _ (sym (ap paper.handed (c .enum-told .given .1)) ∙ k .check-leg .ensures))
+refused b ax ay bx by {n} {p} e f g = sym (leg-refusal b ax ay bx by _ n p (sym g ∙ sym (ap paper.handed e) ∙ f))
+
+returns : tie.Need-returns
+returns c = refused _ _ _ _ _ (c .enum-told .given .1) (c .before .before .check-leg .ensures) refl
 
 returns-2 : tie.Need-returns-2
-unfolding sightRow
-returns-2 c =
-    let k = c .before .before in
-    sym (leg-refusal _ _ _ _ _ _ _ _ (sym (ap paper.handed (c .enum-told2 .given .1)) ∙ k .check-leg .ensures))
+returns-2 c = refused _ _ _ _ _ (c .enum-told2 .given .1) (c .before .before .check-leg .ensures) refl
 
 returns-3 : tie.Need-returns-3
-unfolding sightRow
-returns-3 c =
-    let k = c .before .before .before in
-    sym (leg-refusal _ _ _ _ _ _ _ _ (sym (ap paper.handed (c .before .at .given .1)) ∙ k .check-leg .ensures))
+returns-3 c = refused _ _ _ _ _ (c .before .at .given .1) (c .before .before .before .check-leg .ensures) refl
 
 returns-4 : tie.Need-returns-4
-unfolding sightRow
-returns-4 c =
-    let k = c .before .before in
-    sym (leg-refusal _ _ _ _ _ _ _ _ (sym (ap paper.handed (c .enum-told3 .given .1)) ∙ k .check-leg .ensures))
+returns-4 c = refused _ _ _ _ _ (c .enum-told3 .given .1) (c .before .before .check-leg .ensures) refl
 
 returns-5 : tie.Need-returns-5
-unfolding sightRow
-returns-5 c =
-    let k = c .before .before in
-    sym (leg-refusal _ _ _ _ _ _ _ _ (sym (ap paper.handed (c .enum-told4 .given .1)) ∙ k .check-leg .ensures))
+returns-5 c = refused _ _ _ _ _ (c .enum-told4 .given .1) (c .before .before .check-leg .ensures) refl
 
 -- what `sees` says is the row's value
 answers : (c : tie.After-sees) (v : Bool) → c .sees .result ≡ v →

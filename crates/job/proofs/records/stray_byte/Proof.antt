@@ -7,7 +7,7 @@ use borrow.Author.Needs.{needs}
 use Rattle.laws.specs.Below.{firstWhere}
 use Rattle.laws.proofs.Below.{none-yet, none-more, first-here}
 use denote.Ref.{now}
-use borrow.Author.Tests.{not-true, not-false}
+use Rattle.laws.proofs.Tests.{answered-no, answered-yes}
 use Rattle.job.proofs.Says.{byte-stray, byte-used, byte-zero}
 use Rattle.job.specs.Job.{recordBytes, byte, isUsed, isStrayByte}
 use Rattle.job.proofs.records.stray_byte.Statement.{statement}
@@ -39,7 +39,7 @@ used c = rw (← (c .before .before .loop .inv .1)) (c .is-used .ensures)
 returns : tie.Need-returns Inv-loop μ-loop
 returns c =
     let l = c .before .before .before .before .before .loop in
-    sym (first-here _ (l .k) (l .inv .2) (byte-stray _ _ _ (sym (used (c .before .before .before)) ∙ not-true _ (c .before .before .if1 .taken)) (rw (c .before .byte-of2 .ensures) at (c .if2 .taken))) recordBytes (omega arith))
+    sym (first-here _ (l .k) (l .inv .2) (byte-stray _ _ _ (answered-no (used (c .before .before .before)) (c .before .before .if1 .taken)) (rw (c .before .byte-of2 .ensures) at (c .if2 .taken))) recordBytes (omega arith))
 
 add-k : tie.Need-add-k Inv-loop μ-loop
 add-k c = omega arith
@@ -50,7 +50,7 @@ loop-less c = omega arith
 loop-again : tie.Need-loop-again Inv-loop μ-loop
 loop-again c =
     let l = c .before .before .before .loop in
-    (omega arith, l .inv .1, none-more _ (l .k) (l .inv .2) (⊎-elim (λ w. byte-zero _ _ _ (sym (w .1 .ensures) ∙ w .2 .left)) (λ w. byte-used _ _ _ (sym (used (c .before)) ∙ not-false _ (w .left))) (c .if1 .came)))
+    (omega arith, l .inv .1, none-more _ (l .k) (l .inv .2) (⊎-elim (λ w. byte-zero _ _ _ (sym (w .1 .ensures) ∙ w .2 .left)) (λ w. byte-used _ _ _ (answered-yes (used (c .before)) (w .left))) (c .if1 .came)))
 
 returns-2 : tie.Need-returns-2 Inv-loop μ-loop
 returns-2 c =

@@ -1,7 +1,7 @@
 -- `job::steps::board_step` judges a board record by 12, then 14.
-use mathlib.Core.Path.{sym, _∙_}
+use mathlib.Core.Path.{sym}
 use borrow.Author.Needs.{needs}
-use borrow.Author.Tests.{not-true, not-false}
+use Rattle.laws.proofs.Tests.{answered-no, answered-yes}
 use Rattle.job.proofs.Stepping.{board-later, board-oversized, board-next}
 use Rattle.job.proofs.steps.board_step.Statement.{statement}
 use Rattle.job.proofs.steps.board_step.Tie as tie
@@ -14,11 +14,11 @@ sides-fit-requires c κs = search needs
 
 returns-2 : tie.Need-returns-2
 returns-2 c =
-    sym (board-oversized _ _ _ (c .before .before .if1 .left) (sym (c .before .sides-fit .ensures) ∙ not-true _ (c .if2 .taken)))
+    sym (board-oversized _ _ _ (c .before .before .if1 .left) (answered-no (c .before .sides-fit .ensures) (c .if2 .taken)))
 
 returns-3 : tie.Need-returns-3
 returns-3 c =
-    sym (board-next _ _ _ (c .before .before .if1 .left) (sym (c .before .sides-fit .ensures) ∙ not-false _ (c .if2 .left)))
+    sym (board-next _ _ _ (c .before .before .if1 .left) (answered-yes (c .before .sides-fit .ensures) (c .if2 .left)))
 
 pub board-step-spec : {M : Type 1} → statement M
 board-step-spec = tie.close (tie.spec returns sides-fit-requires returns-2 returns-3)

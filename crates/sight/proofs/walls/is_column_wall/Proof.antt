@@ -1,10 +1,5 @@
 -- `sight::walls::is_column_wall` reads the two cells beside the edge.
-use Prim.Native.Nat.{ℕ}
-use mathlib.Core.Path.{sym, ap, ap₂, _∙_}
-use mathlib.Core.Bool.{_&&_}
 use borrow.Author.Needs.{needs}
-use denote.Ref.{now}
-use Rattle.board.specs.Board.{Board, board, blocked}
 use Rattle.sight.proofs.Beside.{column-wall-read}
 use Rattle.sight.proofs.walls.is_column_wall.Statement.{statement}
 use Rattle.sight.proofs.walls.is_column_wall.Tie as tie
@@ -25,11 +20,7 @@ returns : tie.Need-returns
 returns c =
     let k = c .before .before in
     let s = k .before .before .before in
-    let a = s .args in
-    let b : Board = board (now (a .cells)) (a .width) (a .height) in
-    ap₂ _&&_ (k .is-cell-blocked .ensures ∙ ap (λ (i : ℕ). blocked b i (a .y)) (k .before .line-before .ensures))
-    (c .is-cell-blocked2 .ensures ∙ ap (λ (i : ℕ). blocked b i (a .y)) (c .before .line-behind .ensures))
-    ∙ sym (column-wall-read b (a .x) (a .y) (search needs) (s .pre .1 .0))
+    column-wall-read _ (s .pre .0) _ _ (s .pre .1 .0) (k .is-cell-blocked .ensures) (c .is-cell-blocked2 .ensures) (k .before .line-before .ensures) (c .before .line-behind .ensures)
 
 pub is-column-wall-spec : {M : Type 1} → statement M
 is-column-wall-spec =

@@ -1,33 +1,12 @@
--- What `every` and `someCorner` say. Assumes nothing.
-use Prim.Native.Nat.{ℕ, zero, suc, _+_, _≤_, _<_}
-use mathlib.Core.Path.{_≡_, refl}
+-- Some corner of a cell passes a test: which one does, and that one is enough. Assumes nothing.
+use Prim.Native.Nat.{ℕ, _+_, _≤_, _<_}
+use mathlib.Core.Path.{_≡_}
 use mathlib.Core.Logic.{⊎-elim}
-use mathlib.Core.Bool.{Bool, true, false}
+use mathlib.Core.Bool.{Bool, true}
 use native.Mathlib.Nat.{eq-or-lt-of-le}
 use native.Mathlib.Omega.{arith}
-use Rattle.laws.proofs.Tests.{and-both, and-left, and-right, or-cases, or-left, or-right}
-use Rattle.sight.specs.Sight.{every, someCorner}
-
--- below n + 1 is at most n
-pub last : (k n : ℕ) → k < suc n → k ≤ n
-last k n l = omega arith
-
-pub every-at : (n : ℕ) (f : ℕ → Bool) → every n f ≡ true → (k : ℕ) → k < n → f k ≡ true
-unfolding every
-every-at zero f h k l = absurd (omega arith)
-every-at (suc n) f h k l =
-    ⊎-elim (λ e. rw e (and-right (every n f) (f n) h))
-    (λ m. every-at n f (and-left (every n f) (f n) h) k (omega arith)) (eq-or-lt-of-le (last k n l))
-
-pub every-of : (n : ℕ) (f : ℕ → Bool) → ((k : ℕ) → k < n → f k ≡ true) → every n f ≡ true
-unfolding every
-every-of zero f h = refl
-every-of (suc n) f h = and-both (every-of n f (λ k l. h k (omega arith))) (h n (omega arith))
-
-pub every-same : (n : ℕ) (f g : ℕ → Bool) → ((k : ℕ) → f k ≡ g k) → every n f ≡ every n g
-unfolding every
-every-same zero f g e = refl
-every-same (suc n) f g e = rw (every-same n f g e, e n)
+use Rattle.laws.proofs.Tests.{or-cases, or-left, or-right}
+use Rattle.sight.specs.Sight.{someCorner}
 
 pub corner-same : (f g : ℕ → ℕ → Bool) (i j : ℕ) → ((x y : ℕ) → f x y ≡ g x y) → someCorner f i j ≡ someCorner g i j
 unfolding someCorner
