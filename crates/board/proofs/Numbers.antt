@@ -1,10 +1,10 @@
 -- Where a cell's byte lies, and what vertex numbers are. Assumes nothing.
 use mathlib.Core.Path.{_≡_, _∙_}
-use Prim.Native.Nat.{ℕ, _+_, _*_, _/_, _%_, _^_, _≤_, _<_}
+use Prim.Native.Nat.{ℕ, _+_, _*_, _^_, _≤_, _<_}
 use native.Mathlib.Nat.{mul-le-mul, mul-le-mul-right, le-trans, lt-of-le-of-lt, div-add-mod', mod-lt, mul-add-mod-self-right, mod-eq-of-lt, div-eq-of-lt-le, div-lt-iff-lt-mul}
 use native.Mathlib.Omega.{arith}
 use Rattle.board.specs.Limits.{side, vertexBits, mostVertices, vertices-fit}
-use Rattle.board.specs.Board.{Board, numberOf, columnOf, rowOf}
+use Rattle.board.specs.Board.{numberOf, columnOf, rowOf}
 
 pub cell-index : (w h x y : ℕ) → x < w → y < h → y * w + x < w * h
 cell-index w h x y hx hy = omega (arith, mul-le-mul-right w hy)

@@ -1,13 +1,10 @@
 -- Each contract of this crate admits one result: two answers that hand the same back are equal. Assumes nothing.
 use mathlib.Core.Path.{_≡_, refl, sym, ap, _∙_}
 use mathlib.Core.Bool.{cond}
-use mathlib.Core.List.{[], _∷_, List}
 use lib.Dec.{eqb}
 use lib.ListN.{getD}
-use lib.Ieee.{Float, nan}
+use lib.Ieee.{nan}
 use Rattle.board.specs.Paper.{Handed}
-use Rattle.length.specs.declared.Length.{Length}
-use Rattle.length.specs.declared.Direction.{Direction}
 use Rattle.length.specs.declared.Measured.{Measured}
 use Rattle.length.specs.declared.Measured.the-variants as measured
 use Rattle.length.specs.declared.Aimed.{Aimed}

@@ -1,5 +1,5 @@
 -- What document 01 says of a leg's direction. Assumes nothing.
-use mathlib.Core.Path.{_≡_, sym}
+use mathlib.Core.Path.{_≡_}
 use Prim.Native.Nat.{ℕ, _+_, _*_, _<_}
 use native.Mathlib.Nat.{mul-pos}
 use native.Mathlib.Omega.{arith}
@@ -10,7 +10,7 @@ use lib.Ieee.{fin, le}
 use mathlib.Core.Bool.{false}
 use Rattle.length.specs.Units.{unitsPerCell, unitsOf, square}
 use Rattle.length.specs.Legs.{sizesOf}
-use Rattle.length.specs.Floats.{quotient, magnitude}
+use Rattle.length.specs.Floats.{magnitude}
 use Rattle.length.specs.Paper.{directionOf}
 use Rattle.length.proofs.Units.{units-axis, units-width, units-height, units-positive}
 use Rattle.length.proofs.Floats.{quotient-zero, quotient-axis, quotient-most}

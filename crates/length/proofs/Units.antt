@@ -2,13 +2,13 @@
 use mathlib.Core.Path.{_≡_, sym}
 use mathlib.Core.Bool.{false, _&&_, true≢false}
 use Prim.Native.Nat.{ℕ, zero, suc, _+_, _*_, _^_, _≤_, _<_}
-use native.Mathlib.Nat.{mul-assoc, mul-comm, mul-left-comm, mul-le-mul, mul-add, add-mul, le-of-eq, le-trans, lt-of-le-of-lt, lt-of-lt-of-le, zero-lt-suc}
+use native.Mathlib.Nat.{mul-assoc, mul-comm, mul-left-comm, le-of-eq, zero-lt-suc}
 use native.Mathlib.Omega.{arith}
 use lib.Dec.{eqb}
 use Rattle.board.specs.Limits.{side}
 use Rattle.length.specs.Root.{Largest, Bounds}
 use Rattle.length.specs.Units.{unitsPerCell, unitsOf}
-use Rattle.length.proofs.Root.{next, below, bounds-one, root-bounds, root-largest, finer-low, finer-high}
+use Rattle.length.proofs.Root.{next, below, bounds-one, root-bounds, root-largest}
 
 pub units-largest : (s : ℕ) → Largest (s * 2 ^ 40) (unitsOf s)
 unfolding unitsOf

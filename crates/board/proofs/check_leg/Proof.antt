@@ -1,19 +1,14 @@
 -- `board::check_leg` answers by the rows 1 to 5.
 use mathlib.Core.Path.{_≡_, sym, ap, _∙_}
-use mathlib.Core.Bool.{true}
 use borrow.Author.Needs.{needs}
 use borrow.Author.Tests.{not-true, not-false}
 use denote.Ref.{now}
-use Rattle.board.specs.Board.{Board, board, isVertex}
-use Rattle.board.specs.Paper.{Handed, handed, accepted, boardRows, endRows, legRows}
+use Rattle.board.specs.Board.{Board, board}
+use Rattle.board.specs.Paper.{Handed, handed, boardRows}
 use Rattle.board.proofs.Rows.{is-refusal, board-screen, ends-first, ends-second, ends-pass}
 use Rattle.board.proofs.Screens.{accepted-on, refused-on}
 use Rattle.board.proofs.check_leg.Statement.{statement}
 use Rattle.board.proofs.check_leg.Tie as tie
-use Rattle.board.proofs.check_leg.Reads as reads
-use Rattle.board.proofs.check_leg.Lts as lts
-use Rattle.board.proofs.check_board.Reads as check-board-reads
-use Rattle.board.proofs.inner.is_vertex.Reads as is-vertex-reads
 
 -- the board that the call is given
 abbrev asked : tie.After-enum-told → Board

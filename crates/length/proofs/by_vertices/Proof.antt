@@ -1,5 +1,5 @@
 -- `length::by_vertices` takes a leg apart, refused by 4 and 5.
-use mathlib.Core.Path.{_≡_, sym, _∙_}
+use mathlib.Core.Path.{sym, _∙_}
 use borrow.Author.Needs.{needs}
 use borrow.Author.Tests.{not-true, not-false}
 use Rattle.length.specs.Legs.{step}

@@ -1,6 +1,6 @@
 -- `length::direction_of` gives the direction of a leg, refused by 9 where its ends are equal, and hands a refusal on.
-use mathlib.Core.Path.{_≡_, sym, ap, _∙_, subst}
-use Prim.Native.Nat.{ℕ, _+_, _*_, _^_, _≤_, _<_}
+use mathlib.Core.Path.{subst}
+use Prim.Native.Nat.{_+_, _*_, _^_, _≤_, _<_}
 use borrow.Author.Needs.{needs}
 use Rattle.board.specs.Limits.{side}
 use Rattle.length.specs.declared.Sizes.{Sizes}
@@ -8,10 +8,6 @@ use Rattle.length.specs.Legs.{Short}
 use Rattle.length.proofs.Units.{units-positive, units-fit, different}
 use Rattle.length.proofs.direction_of.Statement.{statement}
 use Rattle.length.proofs.direction_of.Tie as tie
-use Rattle.length.proofs.direction_of.Reads as reads
-use Rattle.length.proofs.direction_of.Lts as lts
-use Rattle.length.proofs.inner.units_of.Reads as units-of-reads
-use Rattle.length.proofs.ratio.Reads as ratio-reads
 
 enum-known-leg : tie.Need-enum-known-leg
 enum-known-leg c = search needs

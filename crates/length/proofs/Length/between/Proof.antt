@@ -1,5 +1,5 @@
 -- `length::Length::between` takes the leg by its vertices and gives its length.
-use mathlib.Core.Path.{_≡_, sym, ap, _∙_, subst}
+use mathlib.Core.Path.{sym, ap, _∙_, subst}
 use borrow.Author.Needs.{needs}
 use Rattle.length.specs.Legs.{Short}
 use Rattle.length.specs.Paper.{lengthRow}

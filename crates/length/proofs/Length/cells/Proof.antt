@@ -1,5 +1,4 @@
 -- `length::Length::cells` divides the nearest f64 by the units of a cell: the definition's cells.
-use mathlib.Core.Path.{refl}
 use native.Mathlib.Omega.{arith}
 use borrow.Author.Needs.{needs}
 use Rattle.length.specs.Floats.{cellsOf}
