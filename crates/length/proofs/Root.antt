@@ -1,13 +1,13 @@
 -- The whole square root: the definition's is the largest, and exactly one number is. Assumes nothing.
-use mathlib.Core.Path.{_≡_, refl, sym, ap, _∙_, subst}
+use mathlib.Core.Path.{_≡_, refl, ap, _∙_}
 use mathlib.Core.Logic.{_≢_}
 use mathlib.Core.Bool.{Bool, true, false, cond, not}
 use Prim.Native.Nat.{ℕ, zero, suc, _+_, _*_, _/_, _^_, _≤_, _<_}
 use native.Mathlib.Nat.{mul-comm, mul-assoc, mul-left-comm, mul-add, add-mul, mul-le-mul, mul-le-mul-left, mul-lt-mul-of-pos-left, mul-pos, le-trans, le-antisymm, lt-of-not-le, not-le-of-lt, lt-of-lt-of-le, pow-suc}
 use native.Mathlib.Decide.{ℕ-discrete}
 use native.Mathlib.Omega.{arith}
-use lib.Dec.{T, leb, eqb, leb→le, nleb→lt}
-use borrow.Author.Tests.{eq-eqb, ne-eqb}
+use lib.Dec.{T, leb, leb→le, nleb→lt}
+use borrow.Author.Tests.{ne-eqb}
 use Rattle.length.specs.Root.{Largest, Bounds, doubled, rootIn, root}
 
 -- ---- squares
