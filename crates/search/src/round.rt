@@ -16,6 +16,7 @@ use crate::open::MARGINS;
 use crate::open::leave_out;
 use crate::open::stand;
 use board::Vertex;
+use board::inner::line_before;
 use sight::inner::sees;
 use sight::inner::sees_neighbour;
 
@@ -121,13 +122,6 @@ fn look(
         );
     }
     tests + 1
-}
-
-// The line of vertices before the line c, or c if it is the first.
-fn line_before(c: usize) -> usize
-    ensures { λ r. ⌜ r ≡ c - 1 ⌝ }
-{
-    if c == 0 { 0 } else { c - 1 }
 }
 
 // The end of the lines next to the line c, of which the last is `last`.

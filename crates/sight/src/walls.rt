@@ -6,16 +6,10 @@ ghost use Rattle.board.specs.Board.{Sound, board};
 ghost use Rattle.sight.specs.Sight.{rowWall, columnWall};
 ghost use Rattle.sight.specs.Stops.{walled};
 use board::inner::is_cell_blocked;
+use board::inner::line_before;
 
-// The line of cells before the vertices' line c. Before the first one is the outside, which is blocked: the line behind
-// it decides, and is read for both sides.
-fn line_before(c: usize) -> usize
-    ensures { λ r. ⌜ r ≡ c - 1 ⌝ }
-{
-    if c == 0 { 0 } else { c - 1 }
-}
-
-// The line of cells behind the vertices' line c, of `lines` lines of cells. Behind the last one is the outside.
+// The line of cells behind the vertices' line c, of `lines` lines of cells. Behind the last one is the outside, which is blocked, as
+// before the first one: there the line on the other side decides, and is read for both.
 fn line_behind(c: usize, lines: usize) -> usize
     requires { ⌜ 0 < lines ⌝ }
     ensures { λ r. ⌜ r ≡ min c (lines - 1) ⌝ }
