@@ -29,6 +29,16 @@ asked-for s = record { sound = s .pre .0; start = s .pre .1 .0 .0; goal = s .pre
 few : (s : tie.Start) → sizeOf (request s) ≤ mostVertices
 few s = vertices-most (s .args .width) (s .args .height) (s .pre .0 .narrow) (s .pre .0 .low)
 
+-- the places on the way: the start's length is known, the slices have been begun, the start has its number
+abbrev begun : tie.After-units-between → tie.After-begin
+begun u = u .before .before .before .before .before .before .before .before
+
+abbrev numbered : tie.After-begin → tie.After-number-of
+numbered b = b .before .before .before .before
+
+abbrev start : tie.After-number-of → tie.Start
+start n = n .before .before .before .before .before
+
 mul-none : tie.Need-mul-none
 mul-none c = omega (arith, few (c .before .before .before .before))
 
@@ -37,13 +47,14 @@ number-of-requires c κs = search needs
 
 begin-requires : tie.Need-begin-requires
 begin-requires c κs =
-    let s = c .before .before .before .before .before .before .before .before in
+    let n = c .before .before .before in
+    let s = start n in
     let a = s .args in
     let S = s .pre .1 .0 .0 in
-    (omega (arith, c .before .before .before .number-of .ensures, number-below (a .width) (a .height) (a .sx) (a .sy) (S .x-on) (S .y-on), few s), s .pre .1 .1)
+    (omega (arith, n .number-of .ensures, number-below (a .width) (a .height) (a .sx) (a .sy) (S .x-on) (S .y-on), few s), s .pre .1 .1)
 
 cast-champions : tie.Need-cast-champions
-cast-champions c = omega (arith, few (c .before .before .before .before .before .before .before .before .before .before .before .before .before .before .before), vertices-fit)
+cast-champions c = omega (arith, few (start (numbered (c .before .before .before .before .before .before))), vertices-fit)
 
 cast-margins : tie.Need-cast-margins
 cast-margins c = search needs
@@ -52,7 +63,9 @@ add-margins : tie.Need-add-margins
 add-margins c = search needs
 
 units-between-requires : tie.Need-units-between-requires
-units-between-requires c κs = let A = asked-for (c .before .before .before .before .before .before .before .before .before .before .before .before .before .before .before .before) in (omega (arith, A .start, A .goal, A .sound), known-none)
+units-between-requires c κs =
+    let A = asked-for (start (numbered (c .before .before .before .before .before .before .before))) in
+    (omega (arith, A .start, A .goal, A .sound), known-none)
 
 mul-champions : tie.Need-mul-champions
 mul-champions c = search needs
@@ -92,14 +105,16 @@ leave-out-requires c κs = search needs
 
 run-requires : tie.Need-run-requires
 run-requires c κs =
-    let b = c .before .before .before .before .before .before .before .before .before .before .before .before .before .before .before .before .before in
-    let n = c .before .before .before .before .before .before .before .before .before .before .before .before .before .before .before .before .before .before .before .before .before in
-    let u = c .before .before .before .before .before .before .before .before .before in
-    let A = asked-for (c .before .before .before .before .before .before .before .before .before .before .before .before .before .before .before .before .before .before .before .before .before .before .before .before .before .before) in (
+    let o = c .before .before .before .before .before .before .before in
+    let u = o .before .before in
+    let b = begun u in
+    let n = numbered b in
+    let A = asked-for (start n) in (
       A,
       (
         begun-begins A (n .number-of .ensures) (b .begin .ensures),
-        begun-arrays A (n .number-of .ensures) (b .begin .ensures) (u .units-between .result) (u .units-between .ensures .0) (c .before .before .before .before .before .before .before .leave-out .ensures) (u .units-between .ensures .1),
+        begun-arrays A (n .number-of .ensures) (b .begin .ensures) (u .units-between .result) (u .units-between .ensures .0) (o .leave-out .ensures)
+            (u .units-between .ensures .1),
       ),
     )
 
@@ -114,9 +129,10 @@ same-length-3 c = search needs
 
 returns : tie.Need-returns
 returns c =
-    let b = c .before .before .before .before .before .before .before .before .before .before .before .before .before .before .before .before .before .before .before .before .before .before .before .before in
-    let n = c .before .before .before .before .before .before .before .before .before .before .before .before .before .before .before .before .before .before .before .before .before .before .before .before .before .before .before .before in
-    found-whole (asked-for (c .before .before .before .before .before .before .before .before .before .before .before .before .before .before .before .before .before .before .before .before .before .before .before .before .before .before .before .before .before .before .before .before .before)) (n .number-of .ensures) (b .begin .ensures) (c .before .before .before .before .before .before .run .ensures)
+    let o = c .before .before .before .before .before .before in
+    let b = begun (o .before .before .before .before .before .before .before .before .before .before) in
+    let n = numbered b in
+    found-whole (asked-for (start n)) (n .number-of .ensures) (b .begin .ensures) (o .run .ensures)
 
 pub find-spec : {M : Type 1} → statement M
 find-spec =
