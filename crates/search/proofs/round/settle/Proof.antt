@@ -55,23 +55,27 @@ leave-out-requires c κs =
     let R = start (c .before .before .before .before .before .before .before .before .before) .pre .0 in
     omega (arith, R .fitting, R .column, R .margin)
 
+-- the start, from where the calls have been made
+abbrev late : tie.After-leave-out → tie.Start
+late c = start (c .before .before .before .before .before .before .before .before .before .before)
+
 mul-g : tie.Need-mul-g
-mul-g c = let s = start (c .before .before .before .before .before .before .before .before .before .before) in omega (arith, s .pre .0 .on, few s)
+mul-g c = let s = late c in omega (arith, s .pre .0 .on, few s)
 
 slice-write-g : tie.Need-slice-write-g
-slice-write-g c = let R = start (c .before .before .before .before .before .before .before .before .before .before) .pre .0 in omega (arith, R .on, R .room-g)
+slice-write-g c = let R = late c .pre .0 in omega (arith, R .on, R .room-g)
 
 cast-parents : tie.Need-cast-parents
-cast-parents c = let s = start (c .before .before .before .before .before .before .before .before .before .before) in omega (arith, s .pre .0 .on-parent, few s, vertices-fit)
+cast-parents c = let s = late c in omega (arith, s .pre .0 .on-parent, few s, vertices-fit)
 
 mul-parents : tie.Need-mul-parents
-mul-parents c = let s = start (c .before .before .before .before .before .before .before .before .before .before) in omega (arith, s .pre .0 .on, few s)
+mul-parents c = let s = late c in omega (arith, s .pre .0 .on, few s)
 
 slice-write-parents : tie.Need-slice-write-parents
-slice-write-parents c = let R = start (c .before .before .before .before .before .before .before .before .before .before) .pre .0 in omega (arith, R .on, R .room-p)
+slice-write-parents c = let R = late c .pre .0 in omega (arith, R .on, R .room-p)
 
 slice-write-marks : tie.Need-slice-write-marks
-slice-write-marks c = let R = start (c .before .before .before .before .before .before .before .before .before .before) .pre .0 in omega (arith, R .on, R .room-m)
+slice-write-marks c = let R = late c .pre .0 in omega (arith, R .on, R .room-m)
 
 same-length : tie.Need-same-length
 same-length c = search needs

@@ -57,22 +57,29 @@ start l = l .before .before .before .before .before .before .before .before .bef
 pick-requires : tie.Need-pick-requires Inv-turns μ-turns
 pick-requires c κs = let l = c .before .before .before in finding-entries (start l .pre .0) (l .turns .inv .0)
 
+-- the places on the way: a vertex has been expanded, it is taken, its turn begins
+abbrev taken : tie.After-slice-known6 Inv-turns μ-turns → tie.Else2 Inv-turns μ-turns
+taken c = c .before .before .before .before .before .before .before .before .before .before .before .before .before .before
+
+abbrev turn : tie.Else2 Inv-turns μ-turns → tie.At-turns Inv-turns μ-turns
+turn k = k .before .before .before .before .before .before
+
 -- a vertex is taken that is not the goal, and fewer are expanded than there are
-not-goal : (k : tie.Else2 Inv-turns μ-turns) → let q = start (k .before .before .before .before .before .before) .args .request in k .before .before .pick .result .vertex ≢ numberOf (q .width) (q .gx) (q .gy)
+not-goal : (k : tie.Else2 Inv-turns μ-turns) → let q = start (turn k) .args .request in k .before .before .pick .result .vertex ≢ numberOf (q .width) (q .gx) (q .gy)
 not-goal k e = k .if2 .left (e ∙ sym (k .before .before .before .before .before .before .before .before .number-of .ensures))
 
-more : (k : tie.Else2 Inv-turns μ-turns) → let l = k .before .before .before .before .before .before in l .turns .expansions + 1 ≤ sizeOf (start l .args .request)
+more : (k : tie.Else2 Inv-turns μ-turns) → let l = turn k in l .turns .expansions + 1 ≤ sizeOf (start l .args .request)
 more k =
-    let l = k .before .before .before .before .before .before in
+    let l = turn k in
     omega (arith, finding-room (start l .pre .0) (l .turns .inv .0) (k .before .before .pick .ensures) (k .before .if1 .left) (not-goal k))
 
 add-expansions : tie.Need-add-expansions Inv-turns μ-turns
-add-expansions c = let l = c .before .before .before .before .before .before in let s = start l in omega (arith, more c, few s)
+add-expansions c = let l = turn c in let s = start l in omega (arith, more c, few s)
 
 expand-requires : tie.Need-expand-requires Inv-turns μ-turns
 expand-requires c κs =
     let k = c .before .before .before .before .before .before .before in
-    let l = k .before .before .before .before .before .before in
+    let l = turn k in
     let A = start l .pre .0 in
     let W = l .turns .inv .0 in (
       A,
@@ -83,13 +90,13 @@ expand-requires c κs =
     )
 
 turns-less : tie.Need-turns-less Inv-turns μ-turns
-turns-less c = let k = c .before .before .before .before .before .before .before .before .before .before .before .before .before .before in omega (arith, more k)
+turns-less c = let k = taken c in omega (arith, more k)
 
 turns-again : tie.Need-turns-again Inv-turns μ-turns
 turns-again c =
     let o = c .before .before .before .before .before .before in
-    let k = c .before .before .before .before .before .before .before .before .before .before .before .before .before .before in
-    let l = k .before .before .before .before .before .before in (
+    let k = taken c in
+    let l = turn k in (
       finding-next (start l .pre .0) (l .turns .inv .0) (k .before .before .pick .ensures) (k .before .if1 .left) (not-goal k) (o .expand .ensures .0) (o .expand .ensures .1),
       o .expand .kept .1 .1 .1 .1 .0 ∙ l .turns .inv .1,
       o .expand .kept .1 .1 .1 .1 .1 .0 ∙ l .turns .inv .2,
