@@ -90,26 +90,26 @@ module _ {cells : List ℕ} {q : Request} (A : Asked cells q) where
     unfolding problem
     found-whole e = searched fair g parent mark (ap (turns (basic (asked cells q)) (suc (sizeOf q))) (sym begun-state) ∙ e)
 
-    -- the start is the one open vertex: the champion of its row and its block, and out of its row's margins
-    pub begun-arrays : {margins table : List ℕ} (f : ℕ) → f ≡ units (step (q .sx) (q .gx)) (step (q .sy) (q .gy))
+    -- the start is the one open vertex: the champion of its row and its block, of n entries, and out of its row's margins
+    pub begun-arrays : {margins table : List ℕ} (n : ℕ) → entries ≤ n → (f : ℕ) → f ≡ units (step (q .sx) (q .gx)) (step (q .sy) (q .gy))
         → LeftOut (q .sy) (q .sx) (q .width - q .sx) (replicate (2 * (side + 1)) (q .width + 1)) margins → Known table
-        → Arrays cells q g′ mark′ (set (set (replicate entries (sizeOf q)) (q .sy) start) (side + 1 + q .sy / block) start)
-        (set (set (replicate entries noKey) (q .sy) f) (side + 1 + q .sy / block) f) margins table
+        → Arrays cells q g′ mark′ (set (set (replicate n (sizeOf q)) (q .sy) start) (side + 1 + q .sy / block) start)
+        (set (set (replicate n noKey) (q .sy) f) (side + 1 + q .sy / block) f) margins table
     unfolding problem
-    begun-arrays f e L K = record {
+    begun-arrays n room f e L K = record {
       rows =
           rw (at-start, e ∙ sym key-is)
           (elsewhere (inr (omega (arith, A .sound .low)))
           (champions-start none-yet no-keys (rising-rows cells q) in-row (rw length-replicate (omega (arith, A .sound .low)))
           (rw length-replicate (omega (arith, A .sound .low))) open-start others
-          (λ j a l d. (getD-replicate entries j (sizeOf q) 0 (omega (arith, A .sound .low)), getD-replicate entries j noKey 0 (omega (arith, A .sound .low))))) from (fOf (asked cells q) g′ from));
+          (λ j a l d. (getD-replicate n j (sizeOf q) 0 (omega (arith, A .sound .low)), getD-replicate n j noKey 0 (omega (arith, A .sound .low))))) from (fOf (asked cells q) g′ from));
       blocks =
           rw (at-start, e ∙ sym key-is)
           (champions-start (set none-yet (q .sy) from) (set no-keys (q .sy) (fOf (asked cells q) g′ from)) (rising-blocks cells q) (block-within (q .width + 1) (q .height) in-row)
           (rw (length-set, length-replicate) (omega (arith, A .sound .low))) (rw (length-set, length-replicate) (omega (arith, A .sound .low))) open-start others
           (λ j a l d. let x : j ≢ q .sy = λ z. omega (arith, A .start .y-on, A .sound .low) in (
-            getD-set-other none-yet (q .sy) j from 0 x ∙ getD-replicate entries j (sizeOf q) 0 (omega (arith, A .sound .low)),
-            getD-set-other no-keys (q .sy) j (fOf (asked cells q) g′ from) 0 x ∙ getD-replicate entries j noKey 0 (omega (arith, A .sound .low)),
+            getD-set-other none-yet (q .sy) j from 0 x ∙ getD-replicate n j (sizeOf q) 0 (omega (arith, A .sound .low)),
+            getD-set-other no-keys (q .sy) j (fOf (asked cells q) g′ from) 0 x ∙ getD-replicate n j noKey 0 (omega (arith, A .sound .low)),
           )));
       margined =
           rw (B .mark-is)
@@ -125,10 +125,10 @@ module _ {cells : List ℕ} {q : Request} (A : Asked cells q) where
         from = number (boardOf cells q) (q .sx) (q .sy)
 
         none-yet : List ℕ
-        none-yet = replicate entries (sizeOf q)
+        none-yet = replicate n (sizeOf q)
 
         no-keys : List ℕ
-        no-keys = replicate entries noKey
+        no-keys = replicate n noKey
 
         in-row : Within (rowCut (q .width + 1)) 0 (q .height + 1) (q .sy) (number (boardOf cells q) (q .sx) (q .sy))
         in-row = record {

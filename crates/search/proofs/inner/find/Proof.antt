@@ -7,6 +7,7 @@ use Rattle.board.specs.Limits.{mostVertices, vertices-fit}
 use Rattle.board.proofs.Numbers.{number-below}
 use Rattle.search.specs.declared.Request.{Request}
 use Rattle.search.specs.Request.{sizeOf, Asked}
+use Rattle.search.specs.Rows.{entries}
 use Rattle.search.proofs.Sizes.{vertices-most}
 use Rattle.search.proofs.Table.{known-none}
 use Rattle.search.proofs.Finding.{begun-begins, begun-arrays, found-whole}
@@ -113,7 +114,7 @@ run-requires c κs =
       A,
       (
         begun-begins A (n .number-of .ensures) (b .begin .ensures),
-        begun-arrays A (n .number-of .ensures) (b .begin .ensures) (u .units-between .result) (u .units-between .ensures .0) (o .leave-out .ensures)
+        begun-arrays A (n .number-of .ensures) (b .begin .ensures) entries (omega arith) (u .units-between .result) (u .units-between .ensures .0) (o .leave-out .ensures)
             (u .units-between .ensures .1),
       ),
     )
