@@ -17,12 +17,12 @@ abbrev pub board : List ℕ → ℕ → ℕ → Board
 board cells width height = record { cells = cells; width = width; height = height }
 
 -- cell (x, y) is on the board
-abbrev pub onBoard : Board → ℕ → ℕ → Bool
-onBoard b x y = ltb x (b .width) && ltb y (b .height)
+abbrev pub isCell : Board → ℕ → ℕ → Bool
+isCell b x y = ltb x (b .width) && ltb y (b .height)
 
 -- cell (x, y) is blocked; everything outside the board counts as blocked
 unfoldable pub blocked : Board → ℕ → ℕ → Bool
-blocked b x y = not (onBoard b x y) || eqb (getD (b .cells) (y * b .width + x) 0) 1
+blocked b x y = not (isCell b x y) || eqb (getD (b .cells) (y * b .width + x) 0) 1
 
 -- vertices are the cells' corners, (0, 0) to (width, height)
 abbrev pub isVertex : Board → ℕ → ℕ → Bool
@@ -50,7 +50,7 @@ column b = columnOf (b .width)
 abbrev pub row : Board → ℕ → ℕ
 row b = rowOf (b .width)
 
--- what the checks 1, 2 and 3 leave
+-- what the checks 1 and 2 leave; nothing is needed of 3: a byte blocks exactly if it is 1
 pub record Sound (b : Board) : Type 0 where
   pub wide : 1 ≤ b .width
   pub narrow : b .width ≤ side

@@ -2,7 +2,7 @@
 ghost use mathlib.Core.Path.{_≡_};
 ghost use mathlib.Core.Bool.{_&&_};
 ghost use lib.Dec.{leb};
-ghost use Prim.Native.Nat.{_+_, _-_, _*_, _≤_, _<_};
+ghost use Prim.Native.Nat.{_-_, _≤_, _<_};
 ghost use Rattle.board.specs.Limits.{side};
 ghost use Rattle.board.specs.Board.{Sound, board, blocked, numberOf, columnOf, rowOf};
 ghost use Rattle.board.specs.Paper.{sideFits};
@@ -16,7 +16,7 @@ pub fn side_fits(n: usize) -> bool
     1 <= n && n <= SIDE
 }
 
-// The line before the line c, of vertices or of cells; the first line itself has none before it.
+// The line before the line c, of vertices or of cells; for the first line, that line itself.
 pub fn line_before(c: usize) -> usize
     ensures { λ r. ⌜ r ≡ c - 1 ⌝ }
 {

@@ -1,10 +1,9 @@
 // The board: its largest side, its vertices' numbers, and the checks that every call makes first.
 ghost use mathlib.Core.Path.{_≡_};
-ghost use Prim.Native.Nat.{_≤_, _<_};
 ghost use lib.Dec.{ltb};
 ghost use lib.ListN.{length};
 ghost use Rattle.board.specs.Limits.{side, mostVertices};
-ghost use Rattle.board.specs.Board.{Board, board, vertices, number};
+ghost use Rattle.board.specs.Board.{board};
 ghost use Rattle.board.specs.Paper.{handed, firstBad, boardRows, legRows, accepted};
 use inner::is_vertex;
 use inner::side_fits;
@@ -17,9 +16,10 @@ pub type Vertex = u16;
 // The largest side of a board, in cells.
 pub const SIDE: usize = 63;
 
-// The most vertices of a row or a column, and of a whole board.
+// The most vertices of a row or a column.
 pub const LINE: usize = SIDE + 1;
 
+// The most vertices of a whole board.
 pub const MOST: usize = LINE * LINE;
 
 // What the checks of a request say: document 01's numbers 1 to 5, or nothing to object to.

@@ -15,9 +15,10 @@ mod cells;
 mod records;
 mod steps;
 
-// The most bytes of a job, and the bytes of a record.
+// The most bytes of a job.
 pub const LONGEST: usize = 8192;
 
+// The bytes of a record.
 pub const RECORD: usize = 8;
 
 // Why a job is refused: document 01's 10 to 18, from 12 on with the number of the record.

@@ -36,12 +36,6 @@ bounds-one {n} {u} {v} p q = le-antisymm (below u v n (p .low) (q .high)) (below
 pub bounds-largest : {n u : ℕ} → Bounds n u → Largest n u
 bounds-largest {n} {u} b = record { fits = b .low; most = λ v h. below v u n h (b .high) }
 
-pub largest-bounds : {n u : ℕ} → Largest n u → Bounds n u
-largest-bounds {n} {u} l = record { low = l .fits; high = lt-of-not-le (λ (h : (u + 1) * (u + 1) ≤ n). no (l .most (u + 1) h)) }
-  where
-    no : u + 1 ≤ u → ⊥
-    no h = omega arith
-
 -- ---- the definition's root has them
 
 step : (r n : ℕ) → Bounds (n / 4) r → Bounds n (doubled r n)

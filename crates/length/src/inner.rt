@@ -32,7 +32,7 @@ pub fn root(n: u64) -> u64
     root
 }
 
-// The units of a leg, by the sum of its differences' squares.
+// The units of a leg, by its dx² + dy².
 pub fn units_of_square(s: u64) -> u64
     requires { ⌜ s ≤ 2 * (side * side) ⌝ }
     ensures { λ r. ⌜ r ≡ unitsOf s ⌝ }

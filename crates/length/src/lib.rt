@@ -1,6 +1,6 @@
 // The length of a leg, in whole units and in cells, and its direction.
 ghost use mathlib.Core.Path.{_≡_};
-ghost use Prim.Native.Nat.{_*_, _^_, _≤_, _<_};
+ghost use Prim.Native.Nat.{_^_, _≤_, _<_};
 ghost use lib.IntN.{natAbs};
 ghost use Rattle.board.specs.Limits.{side};
 ghost use Rattle.length.specs.Units.{unitsPerCell};
@@ -131,6 +131,7 @@ fn length_of(leg: Leg) -> Measured
 }
 
 impl Length {
+    // One cell is this many units, 2 to the 20th.
     pub const UNITS_PER_CELL: u64 = 1048576;
 
     // The type's units per cell are the definition's.

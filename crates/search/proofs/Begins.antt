@@ -7,9 +7,19 @@ use lib.ListN.{length, set, replicate, length-set, length-append, length-replica
 use lib.Seq.{set-append-left}
 use Rattle.reach.specs.Turns.{at}
 use Rattle.reach.proofs.Marks.{one-entry}
-use Rattle.search.specs.Search.{Problem, State, initial, beyond}
+use Rattle.search.specs.Search.{Problem, State, initial}
 use Rattle.search.specs.Demands.{Fair}
 use Rattle.search.specs.Begun.{Begins}
+
+-- the state with what lies beyond the vertices
+unfoldable pub beyond : State → List ℕ → List ℕ → List ℕ → State
+beyond s gs ps ms = record {
+  g = s .g ++ gs;
+  parent = s .parent ++ ps;
+  mark = s .mark ++ ms;
+  expansions = s .expansions;
+  tests = s .tests;
+}
 
 abbrev zeros : ℕ → List ℕ
 zeros n = replicate n 0

@@ -29,13 +29,12 @@ use Rattle.search.specs.Search.{
   expand,
   basic,
   search,
-  beyond,
   trail,
   path,
 }
 use Rattle.search.specs.Demands.{Fair, Searched}
 use Rattle.search.proofs.Choosing.{least-open, choose-vertex}
-use Rattle.search.proofs.Begins.{begins-initial}
+use Rattle.search.proofs.Begins.{beyond, begins-initial}
 use Rattle.search.proofs.Completeness.{search-keep}
 use Rattle.search.proofs.Trails.{trail-start, trail-back}
 use Rattle.search.proofs.Tidy.{Tidy, tidy-start, tidy-kept, via-below, relax-tidy, close-tidy, expand-tidy, around-keep}

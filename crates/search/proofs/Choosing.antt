@@ -10,7 +10,7 @@ use lib.Dec.{eqb}
 use borrow.Author.Tests.{eqb-true, eqb-false, eq-eqb, ne-eqb}
 use Rattle.laws.proofs.Tests.{and-left}
 use Rattle.reach.specs.Turns.{at, nothing, arrived, vertex}
-use Rattle.search.specs.Search.{Problem, State, before, better, least, sort, choose}
+use Rattle.search.specs.Search.{Problem, State, before, better, least, choiceOf, choose}
 
 module _ (p : Problem) (g m : List ℕ) where
   pub least-open : (k : ℕ) → k ≤ p .size → (least p g m k ≡ p .size) ⊎ ((least p g m k < k) × (at m (least p g m k) ≡ 1))
@@ -45,20 +45,20 @@ module _ (p : Problem) (g m : List ℕ) where
               true≢false (sym (rw (o′, eq-eqb r (p .size) q) refl) ∙ f)
           last (no d) = ih q (omega arith)
 
-sort-nothing : (c d : Bool) (u : ℕ) → sort c d u ≡ nothing → c ≡ true
-sort-nothing true d u e = refl
-sort-nothing false true u e = cc
-sort-nothing false false u e = cc
+choice-nothing : (c d : Bool) (u : ℕ) → choiceOf c d u ≡ nothing → c ≡ true
+choice-nothing true d u e = refl
+choice-nothing false true u e = cc
+choice-nothing false false u e = cc
 
-sort-arrived : (c d : Bool) (u : ℕ) → sort c d u ≡ arrived → (c ≡ false) × (d ≡ true)
-sort-arrived true d u e = (cc, cc)
-sort-arrived false true u e = (refl, refl)
-sort-arrived false false u e = (refl, cc)
+choice-arrived : (c d : Bool) (u : ℕ) → choiceOf c d u ≡ arrived → (c ≡ false) × (d ≡ true)
+choice-arrived true d u e = (cc, cc)
+choice-arrived false true u e = (refl, refl)
+choice-arrived false false u e = (refl, cc)
 
-sort-vertex : (c d : Bool) (u v : ℕ) → sort c d u ≡ vertex v → (c ≡ false) × (d ≡ false) × (u ≡ v)
-sort-vertex true d u v e = (cc, cc, cc)
-sort-vertex false true u v e = (refl, cc, cc)
-sort-vertex false false u v e = (refl, refl, cc)
+choice-vertex : (c d : Bool) (u v : ℕ) → choiceOf c d u ≡ vertex v → (c ≡ false) × (d ≡ false) × (u ≡ v)
+choice-vertex true d u v e = (cc, cc, cc)
+choice-vertex false true u v e = (refl, cc, cc)
+choice-vertex false false u v e = (refl, refl, cc)
 
 module _ (p : Problem) (s : State) where
   leastNow : ℕ
@@ -76,18 +76,18 @@ module _ (p : Problem) (s : State) where
   pub choose-nothing : choose p s ≡ nothing → (v : ℕ) → v < p .size → at (s .mark) v ≡ 1 → ⊥
   unfolding choose leastNow
   choose-nothing e =
-      least-none p (s .g) (s .mark) (p .size) (omega arith) (eqb-true leastNow (p .size) (sort-nothing _ _ _ e))
+      least-none p (s .g) (s .mark) (p .size) (omega arith) (eqb-true leastNow (p .size) (choice-nothing _ _ _ e))
 
   pub choose-arrived : choose p s ≡ arrived → (p .goal < p .size) × (at (s .mark) (p .goal) ≡ 1)
   unfolding choose leastNow
   choose-arrived e =
-      let q = sort-arrived (eqb leastNow (p .size)) (eqb leastNow (p .goal)) leastNow e in
+      let q = choice-arrived (eqb leastNow (p .size)) (eqb leastNow (p .goal)) leastNow e in
       rw (eqb-true leastNow (p .goal) (q .1)) at (chosen-open (q .0))
 
   pub choose-vertex : (u : ℕ) → choose p s ≡ vertex u → (u < p .size) × (at (s .mark) u ≡ 1) × (u ≢ p .goal)
   unfolding choose leastNow
   choose-vertex u e =
-      let q = sort-vertex (eqb leastNow (p .size)) (eqb leastNow (p .goal)) leastNow u e in
+      let q = choice-vertex (eqb leastNow (p .size)) (eqb leastNow (p .goal)) leastNow u e in
       let h = rw (q .2) at (chosen-open (q .0)) in
       (h .0, h .1, eqb-false u (p .goal) (rw (q .2) at (q .1)))
 

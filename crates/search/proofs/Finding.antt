@@ -18,14 +18,14 @@ use Rattle.length.specs.Units.{units}
 use Rattle.reach.specs.Turns.{at, vertex, Result, turns}
 use Rattle.search.specs.declared.Request.{Request}
 use Rattle.search.specs.declared.Spot.{Spot}
-use Rattle.search.specs.Search.{State, initial, basic, least, choose, beyond, fOf}
+use Rattle.search.specs.Search.{State, initial, basic, least, choose, fOf}
 use Rattle.search.specs.Demands.{Fair, Legs, Searched}
 use Rattle.search.specs.Request.{problem, boardOf, asked, sizeOf, longest, largest, Asked, Fitting, Placed}
 use Rattle.search.specs.Rows.{noKey, block, entries, rowCut, blockCut, Rising, Within, Champions, Entries, Picked, Renewed, Keyed, Margins, LeftOut}
 use Rattle.search.specs.Lengths.{Known}
 use Rattle.search.specs.Round.{state, Ready, Rounded, Taking, Taken, Arrays}
 use Rattle.search.specs.Begun.{Begun, Begins}
-use Rattle.search.proofs.Begins.{begins-initial, begins-beyond, beyond-initial}
+use Rattle.search.proofs.Begins.{beyond, begins-initial, begins-beyond, beyond-initial}
 use Rattle.search.proofs.Choosing.{chosen-nothing, chosen-arrived, chosen-vertex, choose-vertex}
 use Rattle.search.proofs.Held.{Going, g-bound, tests-bound, going-start, going-nothing, going-arrived, going-room}
 use Rattle.search.proofs.Rounds.{going-ready, going-round}

@@ -72,14 +72,14 @@ least p g m zero = p .size
 least p g m (suc k) = let r = least p g m k in cond (better p g m k r) k r
 
 -- the open list is empty, or u is the goal, or u is another vertex
-abbrev pub sort : Bool → Bool → ℕ → Choice
-sort true goal u = nothing
-sort false true u = arrived
-sort false false u = vertex u
+abbrev pub choiceOf : Bool → Bool → ℕ → Choice
+choiceOf true goal u = nothing
+choiceOf false true u = arrived
+choiceOf false false u = vertex u
 
 unfoldable pub choose : Problem → State → Choice
 unfolding least
-choose p s = let u = least p (s .g) (s .mark) (p .size) in sort (eqb u (p .size)) (eqb u (p .goal)) u
+choose p s = let u = least p (s .g) (s .mark) (p .size) in choiceOf (eqb u (p .size)) (eqb u (p .goal)) u
 
 -- ---- what taking it does
 
@@ -164,15 +164,3 @@ trail start parent (suc k) v = elim (eqb v start) [ true ↦ v ∷ [] | false �
 -- the path to the goal, read from the parents
 abbrev pub path : Problem → State → List ℕ
 path p s = trail (p .start) (s .parent) (p .size) (p .goal)
-
--- ---- the same on longer lists
-
--- the state with what lies beyond the vertices
-unfoldable pub beyond : State → List ℕ → List ℕ → List ℕ → State
-beyond s gs ps ms = record {
-  g = s .g ++ gs;
-  parent = s .parent ++ ps;
-  mark = s .mark ++ ms;
-  expansions = s .expansions;
-  tests = s .tests;
-}

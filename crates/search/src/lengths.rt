@@ -1,6 +1,6 @@
 // The lengths of legs, from a table that is filled on demand: a root is dear, and the same squares come again and again.
 ghost use mathlib.Core.Path.{_≡_};
-ghost use Prim.Native.Nat.{_+_, _*_, _≤_};
+ghost use Prim.Native.Nat.{_*_, _≤_};
 ghost use lib.IntN.{natAbs};
 ghost use Rattle.board.specs.Limits.{side};
 ghost use Rattle.length.specs.Legs.{step};
@@ -9,10 +9,10 @@ ghost use Rattle.search.specs.Lengths.{Known};
 use board::SIDE;
 use length::inner::units_of_square;
 
-// Legs whose differences' squares sum up to less have a place in the table; it does not grow with the board.
+// A leg whose dx² + dy² is below this has a place in the table; it does not grow with the board.
 pub const SQUARES: usize = 8192;
 
-// The largest sum of squares on a board.
+// The largest dx² + dy² on a board.
 const LARGEST: usize = 2 * SIDE * SIDE;
 
 // The square of the difference from a to b.
@@ -24,7 +24,7 @@ fn squared(a: usize, b: usize) -> usize
     (d * d) as usize
 }
 
-// The units of a leg, by the sum of its differences' squares.
+// The units of a leg, by its dx² + dy².
 fn units_by(s: usize, table: &mut [u32; SQUARES]) -> u64
     requires { ⌜ s ≤ 2 * (side * side) ⌝ }
     requires { ⌜ Known (now table) ⌝ }

@@ -85,7 +85,7 @@ pub fn pick(
     Leader { vertex: first, f }
 }
 
-// The end of a block's rows, of which there are so many in all.
+// Just past the last row of the block that begins at the row `from`, of so many rows in all.
 fn block_end(from: usize, rows: usize) -> usize
     requires { ⌜ from < rows ⌝ }
     ensures { λ r. ⌜ r ≡ min (from + block) rows ⌝ }
@@ -97,7 +97,7 @@ fn block_end(from: usize, rows: usize) -> usize
     }
 }
 
-// The entry of the block b, of this many rows, by its rows' champions.
+// The entry of the block b anew, by its rows' champions; the board has this many rows of vertices.
 pub fn renew_block(
     none: usize,
     rows: usize,

@@ -1,7 +1,7 @@
 // The round of a taken vertex u: its neighbours are looked at, in increasing order of their numbers.
 ghost use mathlib.Core.Path.{_≡_};
 ghost use mathlib.Core.Bool.{cond};
-ghost use Prim.Native.Nat.{_+_, _-_, _^_, _≤_, _<_, min};
+ghost use Prim.Native.Nat.{_+_, _^_, _≤_, _<_, min};
 ghost use Rattle.board.specs.Limits.{mostVertices};
 ghost use Rattle.sight.specs.Sight.{sees};
 ghost use Rattle.search.specs.Request.{boardOf, asked, sizeOf, Asked, Placed};
@@ -124,7 +124,7 @@ fn look(
     tests + 1
 }
 
-// The end of the lines next to the line c, of which the last is `last`.
+// Just past the last line beside the line c, where `last` is the last line of all.
 fn lines_end(c: usize, last: usize) -> usize
     requires { ⌜ (c ≤ last) × (last < mostVertices) ⌝ }
     ensures { λ r. ⌜ r ≡ min (c + 2) (last + 1) ⌝ }

@@ -43,7 +43,7 @@ pub fn begin(n: usize, start: Vertex, g: &mut [u64], parents: &mut [Vertex], mar
     marks[start as usize] = 1;
 }
 
-// The place of a vertex, by its number. The only divisions are here.
+// The place of a vertex, by its number. The only divisions by a number that is not known beforehand are here.
 fn spot_of(width: usize, v: Vertex) -> Spot
     requires { ⌜ width ≤ side ⌝ }
     ensures { λ r. ⌜ (r .x ≡ columnOf width v) × (r .y ≡ rowOf width v) × (r .number ≡ v) ⌝ }

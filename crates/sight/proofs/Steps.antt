@@ -12,7 +12,7 @@ use Rattle.board.specs.Board.{Board, blocked}
 use Rattle.sight.specs.Sight.{crossed, rowWall, columnWall, sees}
 use Rattle.sight.specs.Leg.{Ends, far, cellAt}
 use Rattle.sight.specs.Stops.{walled, firstStop}
-use Rattle.sight.specs.Neighbours.{close, neighbours}
+use Rattle.sight.specs.Neighbours.{nextTo, neighbours}
 use Rattle.sight.proofs.Axis.{cell-up, cell-down}
 use Rattle.sight.proofs.Crossing.{cross-in}
 use Rattle.sight.proofs.Seen.{sees-clear, edges-every, cells-every}
@@ -48,19 +48,19 @@ module _ (b : Board) (ax ay bx by : ℕ) (on : Ends b ax ay bx by) where
 
 -- neighbours differ by at most 1 each way, and by 1 in some way
 module _ (ax ay bx by : ℕ) (h : neighbours ax ay bx by ≡ true) where
-  neighbours-parts : (not (eqb ax bx && eqb ay by) ≡ true) × (close ax bx ≡ true) × (close ay by ≡ true)
+  neighbours-parts : (not (eqb ax bx && eqb ay by) ≡ true) × (nextTo ax bx ≡ true) × (nextTo ay by ≡ true)
   unfolding neighbours
   neighbours-parts =
       let p : Bool = not (eqb ax bx && eqb ay by) in
-      let q : Bool = close ax bx && close ay by in
+      let q : Bool = nextTo ax bx && nextTo ay by in
       let r = and-right p q h in
-      (and-left p q h, and-left (close ax bx) (close ay by) r, and-right (close ax bx) (close ay by) r)
+      (and-left p q h, and-left (nextTo ax bx) (nextTo ay by) r, and-right (nextTo ax bx) (nextTo ay by) r)
 
   pub neighbours-near : (far ax bx ≤ 1) × (far ay by ≤ 1)
-  neighbours-near = let (n, x, y) = neighbours-parts in (close-far ax bx x, close-far ay by y)
+  neighbours-near = let (n, x, y) = neighbours-parts in (next-far ax bx x, next-far ay by y)
     where
-      close-far : (a b : ℕ) → close a b ≡ true → far a b ≤ 1
-      close-far a b e =
+      next-far : (a b : ℕ) → nextTo a b ≡ true → far a b ≤ 1
+      next-far a b e =
           let p : Bool = leb a (b + 1) in
           let q : Bool = leb b (a + 1) in
           omega (arith, leb-true a (b + 1) (and-left p q e), leb-true b (a + 1) (and-right p q e))

@@ -15,7 +15,7 @@ use crate::walls::is_column_wall;
 use crate::walls::is_row_wall;
 use board::inner::is_cell_blocked;
 
-// What stops the leg first, counted from its first end.
+// What stops the leg first, counted from its first end. For users who ask what is in the way (document 02, item 2).
 pub fn first_stop(
     cells: &[u8],
     width: usize,

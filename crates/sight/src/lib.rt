@@ -18,7 +18,7 @@ pub enum Stop {
     Edge(usize, usize, usize, usize),
 }
 
-// The answer to a sight request, or why there is none.
+// The answer to a sight request (document 01's 0), or why there is none (1 to 5).
 pub enum Answer {
     Yes,
     No,

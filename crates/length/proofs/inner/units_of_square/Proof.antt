@@ -1,5 +1,4 @@
 -- `length::inner::units_of_square` is the root of the scaled square, which fits a word.
-use native.Mathlib.Omega.{arith}
 use borrow.Author.Needs.{needs}
 use Rattle.length.proofs.Units.{units-one}
 use Rattle.length.proofs.inner.units_of_square.Statement.{statement}

@@ -1,4 +1,4 @@
--- `search::open::enter` sets its row's entries if the vertex beats the champion.
+-- `search::open::enter` sets the entry if the vertex beats its champion.
 use mathlib.Core.Path.{refl, sym, _∙_}
 use borrow.Author.Needs.{needs}
 use Rattle.search.proofs.open.enter.Statement.{statement}

@@ -1,6 +1,5 @@
 -- `search::open::renew_block` gives a block the lead of its rows.
-use mathlib.Core.Path.{refl, sym}
-use Prim.Native.Nat.{_≤_}
+use mathlib.Core.Path.{refl}
 use native.Mathlib.Omega.{arith}
 use borrow.Author.Needs.{needs}
 use Rattle.board.specs.Limits.{vertices-fit}
