@@ -1,7 +1,21 @@
 /* Wexxolin for C: line of sight, leg length and direction, the route search and the job reader, as proved.
 
-   Every call takes every input and hands back document 01's number (0 accepted, 8 no path, the rest refusals) and place.
-   A value is 0 where its row of the table has none, so it is 0 with every refusal; with 7 the number of vertices needed is the place.
+   Every call takes every input and hands back document 01's number and place. A value is 0 where its row has none, so it is 0
+   with every refusal. The place is 0 but where it is said:
+
+      0  accepted; for a route, a path found             11  job length no multiple of 8
+      1  width or height outside 1 to 63                 12  record 0 is not a board, or a later one is (place: record)
+      2  number of cells is not width * height           13  unknown type, or an unused byte not 0 (place: record)
+      3  a cell byte is not 0 or 1 (place: its index)    14  board side outside 1 to 63 (place: record)
+      4  first vertex off the board, or dx beyond 63     15  keepout empty or beyond the board (place: record)
+      5  second vertex off the board, or dy beyond 63    16  net end off the board (place: record)
+      6  g, parents or marks too short                   17  net number not above the one before (place: record)
+      7  path too short (place: vertices needed)         18  keepout after a net (place: record)
+      8  no path (a result: both counts are given)       19  board slice shorter than the cells
+      9  direction of a leg with equal ends              20  no net with that index
+     10  job longer than 8,192 bytes
+
+   Cells come row by row, a byte each: 0 free, 1 blocked. Vertices are cell corners, (0, 0) to (width, height); y grows downward.
    Slices are passed as a pointer and a number of elements, which must be there; a pointer may be NULL where that number is 0.
    A slice that a call writes must not overlap another one. */
 #ifndef WEXXOLIN_H
@@ -24,7 +38,7 @@ struct wexxolin_sight {
 struct wexxolin_sight wexxolin_sight(const uint8_t *cells, size_t cells_len, size_t width, size_t height,
                                      size_t ax, size_t ay, size_t bx, size_t by);
 
-/* The length of a leg in units (2^20 to a cell) and in cells. Refusals 4 and 5. */
+/* The length of a leg in units (2^20 to a cell) and in cells: by its differences, or between two vertices. Refusals 4 and 5. */
 struct wexxolin_length {
     uint64_t number, place, units;
     double cells;
@@ -32,7 +46,8 @@ struct wexxolin_length {
 struct wexxolin_length wexxolin_length(int32_t dx, int32_t dy);
 struct wexxolin_length wexxolin_length_between(size_t ax, size_t ay, size_t bx, size_t by);
 
-/* The direction of a leg: dx * 2^20 / units and dy * 2^20 / units. Refusals 4, 5 and 9. */
+/* The direction of a leg, dx * 2^20 / units and dy * 2^20 / units: by its differences, or between two vertices.
+   Refusals 4, 5 and 9. */
 struct wexxolin_direction {
     uint64_t number, place;
     double x, y;
@@ -40,7 +55,9 @@ struct wexxolin_direction {
 struct wexxolin_direction wexxolin_direction(int32_t dx, int32_t dy);
 struct wexxolin_direction wexxolin_direction_between(size_t ax, size_t ay, size_t bx, size_t by);
 
-/* The route from (sx, sy) to (gx, gy). vertices is the number of entries written to path. Refusals 1 to 7; 8 is no path. */
+/* The route from (sx, sy) to (gx, gy). vertices is the number of entries written to path. Refusals 1 to 7; 8 is no path.
+   g, parents and marks need (width + 1) * (height + 1) entries; 64 * 64 always suffice, for path too. After 0, 7 and 8 they hold
+   each vertex's length from the start, its parent and its mark: 0 unseen, 1 open, 2 expanded. It needs 34 KiB of stack. */
 struct wexxolin_route {
     uint64_t number, place;
     double cells;
@@ -51,7 +68,7 @@ struct wexxolin_route wexxolin_route(const uint8_t *cells, size_t cells_len, siz
                                      uint64_t *g, size_t g_len, wexxolin_vertex *parents, size_t parents_len,
                                      uint8_t *marks, size_t marks_len, wexxolin_vertex *path, size_t path_len);
 
-/* A job's board, its cells written to board. Refusals 10 to 19. */
+/* A job's board, its cells written to board, which needs width * height bytes; 63 * 63 always suffice. Refusals 10 to 19. */
 struct wexxolin_board {
     uint64_t number, place, width, height, nets;
 };

@@ -170,6 +170,8 @@ job("scattered", "40 by 30, 35 in 100 blocked", rows + [net(i + 1, dice.below(41
 
 
 def main():
+    if len(sys.argv) != 2:
+        sys.exit(__doc__)
     lines = os.path.abspath(sys.argv[1])
     names = set()
     for name, comment, rows, printed in jobs:

@@ -17,7 +17,7 @@ use board::LINE;
 use board::SIDE;
 use board::Vertex;
 
-// The rows of a block. The champions of eight blocks and of eight rows are sooner looked through than those of 64 rows.
+// The rows of a block. The champions of the blocks and of one block's rows are sooner looked through than those of all rows.
 pub const BLOCK: usize = 8;
 
 // An entry for each row, then one for each block.
