@@ -42,6 +42,7 @@ handed Second = refusal 5 0
 
 -- ---- the rows: each is given exactly if its condition holds and no earlier one's does; `rest` is what comes after them
 
+-- a board may have this side
 abbrev pub sideFits : ℕ → Bool
 sideFits n = leb 1 n && leb n side
 
@@ -50,15 +51,18 @@ unfoldable pub firstBad : List ℕ → ℕ
 firstBad [] = zero
 firstBad (c ∷ cs) = cond (leb c 1) (suc (firstBad cs)) zero
 
+-- rows 1, 2 and 3
 unfoldable pub boardRows : Board → Handed → Handed
 boardRows b rest =
     cond (not (sideFits (b .width) && sideFits (b .height))) (refusal 1 0)
     (cond (not (eqb (length (b .cells)) (b .width * b .height))) (refusal 2 0)
     (cond (ltb (firstBad (b .cells)) (length (b .cells))) (refusal 3 (firstBad (b .cells))) rest))
 
+-- rows 4 and 5
 unfoldable pub endRows : Board → (ax ay bx by : ℕ) → Handed → Handed
 endRows b ax ay bx by rest =
     cond (not (isVertex b ax ay)) (refusal 4 0) (cond (not (isVertex b bx by)) (refusal 5 0) rest)
 
+-- rows 1 to 5
 abbrev pub legRows : Board → (ax ay bx by : ℕ) → Handed → Handed
 legRows b ax ay bx by rest = boardRows b (endRows b ax ay bx by rest)

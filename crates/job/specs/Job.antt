@@ -8,13 +8,15 @@ use lib.ListN.{length, getD}
 use Rattle.laws.specs.Below.{some, howMany, firstWhere}
 use Rattle.board.specs.Paper.{sideFits}
 
--- a record's bytes, and how many records there are
+-- the bytes of a record
 abbrev pub recordBytes : ℕ
 recordBytes = 8
 
+-- the most bytes of a job
 abbrev pub longestJob : ℕ
 longestJob = 8192
 
+-- how many records a job has
 abbrev pub records : List ℕ → ℕ
 records job = length job / recordBytes
 

@@ -17,11 +17,12 @@ pub record Bounds (n u : ℕ) : Type 0 where
 abbrev pub doubled : ℕ → ℕ → ℕ
 doubled r n = cond (leb ((r * 2 + 1) * (r * 2 + 1)) n) (r * 2 + 1) (r * 2)
 
--- the root of n, two binary digits a turn
+-- the root of n, two binary digits a turn, in at most so many turns
 unfoldable pub rootIn : ℕ → ℕ → ℕ
 rootIn zero n = 0
 rootIn (suc turns) n = elim (eqb n 0) [ true ↦ 0 | false ↦ doubled (rootIn turns (n / 4)) n ]
 
+-- the root of n: n turns are more than enough
 unfoldable pub root : ℕ → ℕ
 unfolding rootIn
 root n = rootIn n n

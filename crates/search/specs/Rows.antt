@@ -1,5 +1,5 @@
--- The open list: for each row of vertices, and for each block of rows, the open one that is taken first, with its f. The code keeps this; the
--- laws say that it picks what `least` picks.
+-- The open list: for each row of vertices, and for each block of rows, the open one that is taken first, with its f.
+-- The code keeps this; the laws say that it picks what `least` picks.
 use mathlib.Core.Path.{_≡_}
 use mathlib.Core.Logic.{_≢_}
 use mathlib.Core.Bool.{Bool, true, false, _||_, cond}
@@ -28,6 +28,7 @@ pub record Lead (p : Problem) (g m : List ℕ) (lo hi r f : ℕ) : Type 0 where
   pub keyed : r ≢ p .size → f ≡ fOf p g r
   pub blank : r ≡ p .size → f ≡ noKey
 
+-- a vertex with its f and g
 abbrev pub ranked : ℕ → ℕ → ℕ → Rank
 ranked f g v = record { f = f; g = g; number = v }
 
@@ -93,8 +94,8 @@ pub record Entered (n : ℕ) (g : List ℕ) (i : ℕ) (a : Rank) (champ key cham
   pub champ-is : champ′ ≡ cond (beats n a (ranked (at key i) (at g (at champ i)) (at champ i))) (set champ i (a .number)) champ
   pub key-is : key′ ≡ cond (beats n a (ranked (at key i) (at g (at champ i)) (at champ i))) (set key i (a .f)) key
 
--- a vertex of rank a, in row y, has stood against its row's champion: that one keeps its place, or the vertex took it and has stood against
--- its block's champion too
+-- a vertex of rank a, in row y, has stood against its row's champion: that one keeps its place, or the vertex took it
+-- and has stood against its block's champion too
 pub data Stood (n : ℕ) (g : List ℕ) (y : ℕ) (a : Rank) (champ key champ′ key′ : List ℕ) : Type 0 where
   kept : beats n a (ranked (at key y) (at g (at champ y)) (at champ y)) ≡ false → champ′ ≡ champ → key′ ≡ key → Stood n g y a champ key champ′ key′
   took : beats n a (ranked (at key y) (at g (at champ y)) (at champ y)) ≡ true

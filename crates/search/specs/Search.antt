@@ -77,6 +77,7 @@ choiceOf true goal u = nothing
 choiceOf false true u = arrived
 choiceOf false false u = vertex u
 
+-- what the search takes next
 unfoldable pub choose : Problem → State → Choice
 unfolding least
 choose p s = let u = least p (s .g) (s .mark) (p .size) in choiceOf (eqb u (p .size)) (eqb u (p .goal)) u
@@ -116,6 +117,7 @@ store false w c g s = record {
   tests = s .tests + 1;
 }
 
+-- w is offered the candidate parent c, by one sight test
 abbrev pub update : Problem → ℕ → ℕ → State → State
 update p c w s = store (wins p s c w) w c (cost p s c w) s
 
@@ -139,6 +141,7 @@ close u s = record {
   tests = s .tests;
 }
 
+-- u is taken: it is marked, and then all its neighbours are looked at
 unfoldable pub expand : Problem → ℕ → State → State
 unfolding around close
 expand p u s = around p u (p .size) (close u s)

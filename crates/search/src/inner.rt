@@ -44,11 +44,13 @@ pub fn find(
     let none = (width + 1) * (height + 1);
     let start = number_of(width, sx, sy);
     begin(none, start, g, parents, marks);
+    // The number of vertices stands for no vertex.
     let mut champions = [none as Vertex; ENTRIES];
     let mut keys = [NO_KEY; ENTRIES];
     let mut margins = [width as u32 + 1; MARGINS];
     let mut table = [0u32; SQUARES];
     let f = units_between(sx, sy, gx, gy, &mut table);
+    // The start is the champion of its row and of its block.
     champions[sy] = start;
     keys[sy] = f;
     champions[LINE + sy / BLOCK] = start;

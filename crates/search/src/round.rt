@@ -41,7 +41,8 @@ fn candidate(cells: &[u8], request: Request, u: Spot, parent: Spot, w: Spot) -> 
     }
 }
 
-// The vertex w opens, or its g falls: it gets the g `own` and this parent, and stands against the champions of its row and its block.
+// The vertex w opens, or its g falls: it gets the g `own` and this parent, and stands against the champions of its row and
+// its block.
 fn settle(
     request: Request,
     w: Spot,

@@ -55,8 +55,8 @@ fn spot_of(width: usize, v: Vertex) -> Spot
     }
 }
 
-// The vertex v is expanded: it leaves the open vertices of its row and its block, and its neighbours are looked at. The sight tests so far go in
-// and come out.
+// The vertex v is expanded: it leaves the open vertices of its row and its block, and its neighbours are looked at.
+// The sight tests so far go in and come out.
 fn expand(
     cells: &[u8],
     request: Request,

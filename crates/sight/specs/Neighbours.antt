@@ -13,7 +13,8 @@ nextTo a b = leb a (b + 1) && leb b (a + 1)
 unfoldable pub neighbours : (ax ay bx by : ℕ) → Bool
 neighbours ax ay bx by = not (eqb ax bx && eqb ay by) && (nextTo ax bx && nextTo ay by)
 
--- the vertices numbered u and v are visible neighbours in a search from start to goal (which ends do not matter yet: document 02, item 6)
+-- the vertices numbered u and v are visible neighbours in a search from start to goal
+-- (which ends it has does not matter yet: document 02, item 6)
 unfoldable pub visible : Board → (start goal u v : ℕ) → Bool
 visible b start goal u v =
     (ltb u (vertices b) && ltb v (vertices b))

@@ -32,10 +32,12 @@ firstOf (suc n) f = orElse (firstOf n f) (f n)
 unfoldable pub cellStop : Board → (ax ay bx by i j : ℕ) → Stop
 cellStop b ax ay bx by i j = cond (crossed ax ay bx by i j && blocked b i j) (Cell i j) Clear
 
+-- the first stop in the leg's column u
 unfoldable pub columnStop : Board → (ax ay bx by u : ℕ) → Stop
 columnStop b ax ay bx by u =
     firstOf (far ay by) (λ (v : ℕ). cellStop b ax ay bx by (cellAt ax bx u) (cellAt ay by v))
 
+-- the first stop of all its columns
 unfoldable pub cellsStop : Board → (ax ay bx by : ℕ) → Stop
 cellsStop b ax ay bx by = firstOf (far ax bx) (λ (u : ℕ). columnStop b ax ay bx by u)
 
@@ -45,10 +47,12 @@ stopAt b index = cond (eqb index (length (b .cells))) Clear (Cell (index % b .wi
 
 -- ---- a level leg lies on the row c and goes from column p to q, an upright one on the column c from row p to q
 
+-- the unit edge at k has blocked cells on both sides
 unfoldable pub walled : Board → (level : Bool) → (c k : ℕ) → Bool
 walled b true c k = rowWall b k c
 walled b false c k = columnWall b c k
 
+-- the unit edge from p to q
 unfoldable pub edgeFrom : (level : Bool) → (c p q : ℕ) → Stop
 edgeFrom true c p q = Edge p c q c
 edgeFrom false c p q = Edge c p c q
@@ -58,6 +62,7 @@ unfoldable pub edgeStop : Board → (level : Bool) → (c p q u : ℕ) → Stop
 edgeStop b level c p q u =
     cond (walled b level c (cellAt p q u)) (edgeFrom level c (vertexAt p q u) (vertexAt p q (u + 1))) Clear
 
+-- the first such edge
 unfoldable pub edgesStop : Board → (level : Bool) → (c p q : ℕ) → Stop
 edgesStop b level c p q = firstOf (far p q) (λ (u : ℕ). edgeStop b level c p q u)
 
@@ -72,6 +77,7 @@ stopAfter level c p q steps =
 
 -- ---- any leg
 
+-- what stops the leg first, counted from its first end
 unfoldable pub firstStop : Board → (ax ay bx by : ℕ) → Stop
 firstStop b ax ay bx by =
     cond (eqb ay by) (edgesStop b true ay ax bx)

@@ -9,7 +9,7 @@ use crate::leg;
 // The index of the first blocked cell that the leg crosses, or the number of cells if it crosses none: column by column
 // from the first end, and in each column the cells that the leg crosses.
 // The leg is n columns and m rows long and has come to the cell u columns and v rows on. Drawn with columns m wide and rows
-// n high it is a diagonal: `ahead` is how far the row goes on past the column's begin, n * (v + 1) - m * u.
+// n high it is a diagonal: `ahead` is how far the row goes on past the column's start, n * (v + 1) - m * u.
 pub fn first_blocked(
     cells: &[u8],
     width: usize,

@@ -8,8 +8,8 @@ ghost use Rattle.sight.specs.Stops.{walled};
 use board::inner::is_cell_blocked;
 use board::inner::line_before;
 
-// The line of cells behind the vertices' line c, of `lines` lines of cells. Behind the last one is the outside, which is blocked, as
-// before the first one: there the line on the other side decides, and is read for both.
+// The line of cells behind the vertices' line c, of `lines` lines of cells. The outside is blocked, so that at a border the
+// one inner line decides: it is read for both sides.
 fn line_behind(c: usize, lines: usize) -> usize
     requires { ⌜ 0 < lines ⌝ }
     ensures { λ r. ⌜ r ≡ min c (lines - 1) ⌝ }
