@@ -1,36 +1,15 @@
--- Differences: of two coordinates, and as a signed number of 32 bits. Assumes nothing.
-use mathlib.Core.Path.{_≡_, refl, sym, ap, _∙_, subst}
-use mathlib.Core.Logic.{⊎-elim}
+-- A signed number of 32 bits, as the machine reads it back from its bits: itself, its size with 64 bits, and its test against 0. Assumes nothing.
+use mathlib.Core.Path.{_≡_, refl, sym, ap, ap₂, _∙_, subst}
 use mathlib.Core.Bool.{true, false, true≢false}
-use Prim.Native.Nat.{ℕ, suc, _+_, _*_, _-_, _≤_, _<_}
-use native.Mathlib.Nat.{mul-le-mul}
+use Prim.Native.Nat.{ℕ, suc, _-_, _<_}
 use native.Mathlib.Omega.{arith}
 use lib.IntN.{ℤ, pos, negsuc, natAbs, _-ℤ_, +ℤ-idl}
 use lib.Signed.{ltZ, nonNeg}
-use lib.Dec.{T, ltb}
-use borrow.Author.Tests.{ltb-true, lt-ltb, le-ltb}
+use lib.Dec.{T, eqb, eqb·suc-zero}
+use borrow.Author.Tests.{ltb-true, ne-eqb}
 use mir.Syntax.{w32, w64}
 use mir.Val.{SFits, Fits, toZ, ofZ}
 use mir.ValLaws.{toZ-ofZ}
-use Rattle.laws.proofs.Differences.{diff-pos, diff-size, diff-below, diff-above}
-use Rattle.laws.proofs.Tests.{order}
-use Rattle.board.specs.Limits.{side}
-use Rattle.length.specs.Legs.{step}
-
--- from one coordinate to another
-pub step-size : (a b : ℕ) → natAbs (step a b) ≡ (b - a) + (a - b)
-step-size a b = diff-size (step a b) b a (diff-pos b a)
-
-pub step-sign : (a b : ℕ) → ltb b a ≡ ltZ (step a b) (pos 0)
-step-sign a b =
-    ⊎-elim (λ (l : b < a). lt-ltb b a l ∙ sym (diff-below (step a b) b a (diff-pos b a) l))
-    (λ (g : a ≤ b). le-ltb b a g ∙ sym (diff-above (step a b) b a (diff-pos b a) g)) (order b a)
-
--- two sizes on the largest board
-pub square-le : (x : ℕ) → x ≤ side → x * x ≤ side * side
-square-le x h = mul-le-mul h h
-
--- ---- the size of a signed number, taken with 64 bits
 
 wider : (d : ℤ) → SFits w32 d → SFits w64 d
 wider (pos n) f = record { sfits = omega (arith, f .sfits) }
@@ -50,6 +29,14 @@ kept (negsuc n) h = absurd (true≢false h)
 size-fits : (d : ℤ) → SFits w32 d → SFits w64 (pos (natAbs d))
 size-fits (pos n) f = record { sfits = omega (arith, f .sfits) }
 size-fits (negsuc n) f = record { sfits = omega (arith, f .sfits) }
+
+-- its bits are 0 exactly if it is
+pub zero-test : (d : ℤ) → SFits w32 d → eqb (ofZ w32 d) 0 ≡ eqb (natAbs d) 0
+zero-test (pos n) f = refl
+zero-test (negsuc n) f = ne-eqb (4294967296 - suc n) 0 (some n (f .sfits)) ∙ sym (eqb·suc-zero n)
+  where
+    some : (n : ℕ) → n < 2147483648 → 4294967296 - suc n ≡ 0 → ⊥
+    some n h e = omega arith
 
 module _ (d : ℤ) (f : SFits w32 d) where
   -- an argument of 32 bits, and the same with 64
@@ -77,3 +64,7 @@ module _ (d : ℤ) (f : SFits w32 d) where
 
   pub cast-size : (z : ℤ) → z ≡ pos (natAbs d) → T (nonNeg z) × Fits w64 (natAbs z)
   cast-size z e = subst (λ (x : ℤ). T (nonNeg x) × Fits w64 (natAbs x)) (sym e) (tt, record { fits = omega (arith, size-fits d f .sfits) })
+
+-- what is said of both arguments of a call
+pub narrowed : {A : Type 0} (f : ℤ → ℤ → A) (dx dy : ℤ) → SFits w32 dx → SFits w32 dy → f (toZ w32 (ofZ w32 dx)) (toZ w32 (ofZ w32 dy)) ≡ f dx dy
+narrowed f dx dy p q = ap₂ f (narrow dx p) (narrow dy q)
