@@ -12,7 +12,8 @@ use Rattle.laws.proofs.Below.{none-more, first-here, first-le, first-passes, fi
 use Rattle.board.specs.Board.{Board}
 use Rattle.sight.specs.declared.Stop.the-variants.{Clear}
 use Rattle.sight.specs.Leg.{far, vertexAt, cellAt}
-use Rattle.sight.specs.Stops.{isClear, walled, edgeFrom, edgeStop, edgesStop, openEdges, stopAfter}
+use Rattle.sight.specs.Stops.{isClear, walled, edgeFrom, edgeStop, edgesStop}
+use Rattle.sight.specs.Edges.{openEdges, stopAfter}
 use Rattle.sight.proofs.First.{first-clear, first-at, edge-stops}
 
 module _ (b : Board) (level : Bool) (c p q : ℕ) where

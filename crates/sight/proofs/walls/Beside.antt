@@ -7,7 +7,8 @@ use native.Mathlib.Omega.{arith}
 use borrow.Author.Tests.{le-ltb, ne-eqb}
 use lib.Dec.{ltb, eqb}
 use Rattle.laws.proofs.Tests.{order, and-false}
-use Rattle.board.specs.Board.{Board, Sound, blocked}
+use Rattle.board.specs.Board.{Board, blocked}
+use Rattle.board.specs.Inner.{Sound}
 use Rattle.sight.specs.Sight.{rowWall, columnWall}
 
 -- what is beyond the board is blocked
