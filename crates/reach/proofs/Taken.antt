@@ -176,13 +176,13 @@ module _ {n : ℕ} {near : ℕ → ℕ → Bool} {start : ℕ} (F : Ground n nea
         go (and-left (near u v) (done u || done v) h) (or-cases (done u) (done v) (and-right (near u v) (done u || done v) h))
       where
         go : near u v ≡ true → (done u ≡ true) ⊎ (done v ≡ true) → NearPair near start u v
-        go j (inl d) = record { joined = j; left = done-reach u (omega arith) d; right = move (done-reach u (omega arith) d) j }
-        go j (inr d) = record { joined = j; left = move (done-reach v m d) (F .near-laws .symmetric v u ∙ j); right = done-reach v m d }
+        go j (inl d) = record { joined = j; one = done-reach u (omega arith) d; other = move (done-reach u (omega arith) d) j }
+        go j (inr d) = record { joined = j; one = move (done-reach v m d) (F .near-laws .symmetric v u ∙ j); other = done-reach v m d }
 
     pub idle-pairs : (t : ℕ) → Tested n near done t → Idle n seen done → Number² n (NearPair near start) t
     idle-pairs t m z = (
       touched near done,
-      record { yes-has = touched-pair; has-yes = λ u v l m q. and-both (q .joined) (or-left (done v) (all-done z (q .left))) },
+      record { yes-has = touched-pair; has-yes = λ u v l m q. and-both (q .joined) (or-left (done v) (all-done z (q .one))) },
       m,
     )
 
