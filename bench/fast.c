@@ -1,5 +1,5 @@
 /* A fast, ordinary router: Basic Theta* with a binary heap with decrease-key, an integer sight walk over the crossed cells
-   only, and the hardware's square root corrected to the exact whole root.
+   only, and the hardware's square root. Its results are document 01's, every entry of every slice.
 
    To be compiled with -fno-math-errno, so that the square root is one instruction and no call.
 
@@ -13,64 +13,92 @@
 #define FAST_SKIP_DECIDED 0
 #endif
 
-enum { MOST_VERTICES = 64 * 64, UNSEEN = 0, OPEN = 1, EXPANDED = 2 };
+/* A vertex's place is y * LINE + x whatever the board's width, so that a step is a constant and x and y are cut out of bits. */
+enum {
+    LINE = LARGEST_SIDE + 1,
+    LINE_BITS = LINE == 64 ? 6 : LINE == 128 ? 7 : LINE == 256 ? 8 : 9,
+    PLACES = LINE * LINE,
+    PLACE_BITS = 2 * LINE_BITS
+};
+_Static_assert(LINE == 1 << LINE_BITS, "the largest side is 63, 127, 255 or 511");
 
 #define AXIS_UNITS 1048576u
 #define DIAGONAL_UNITS 1482910u
 
+#define INLINE static inline __attribute__((always_inline))
+
 /* ---------- the board with its blocked surroundings ---------- */
 
-/* Row j of the cells starts at field[(j + 1) * stride + 1], stride being width + 1; everything around is blocked. The one
-   column between two rows serves as the right side of the upper and the left side of the lower one. So the four cells
-   around vertex v are field[v], field[v + 1], field[v + stride] and field[v + stride + 1]. */
+/* A byte for each place. Of the cell that has the vertex as its lower right corner: is it BLOCKED, as everything outside the
+   board is. Of the vertex itself: was it SEEN, is it EXPANDED. So the cells around the vertex at p are at p, p + 1, p + LINE and
+   p + LINE + 1. */
+enum { BLOCKED = 1, SEEN = 2, EXPANDED = 4 };
+
 struct field {
-    int stride;
-    uint8_t cells[64 * 65 + 1];
+    uint8_t bytes[PLACES + LINE + 1];
 };
 
-static void fill_field(struct field *field, const uint8_t *cells, size_t width, size_t height)
+typedef uint8_t sixteen __attribute__((vector_size(16), aligned(1), may_alias));
+typedef uint64_t pair __attribute__((vector_size(16)));
+typedef uint64_t eight __attribute__((aligned(1), may_alias));
+
+/* Copies a row of cells and returns the bits that its bytes have. */
+INLINE uint64_t copy_row(uint8_t *to, const uint8_t *from, size_t width)
 {
-    size_t stride = width + 1;
-    uint8_t *row = field->cells + stride;
-    field->stride = (int)stride;
-    memset(field->cells, 1, stride);
-    for (size_t j = 0; j < height; j++, row += stride, cells += width) {
-        row[0] = 1;
-        memcpy(row + 1, cells, width);
+    uint64_t bits = 0;
+    if (width >= 16) {
+        sixteen all = *(const sixteen *)(from + width - 16);
+        *(sixteen *)(to + width - 16) = all;
+        for (size_t i = 0; i + 16 < width; i += 16) {
+            sixteen part = *(const sixteen *)(from + i);
+            *(sixteen *)(to + i) = part;
+            all |= part;
+        }
+        pair both = (pair)all;
+        bits = both[0] | both[1];
+    } else if (width >= 8) {
+        uint64_t first = *(const eight *)from, last = *(const eight *)(from + width - 8);
+        *(eight *)to = first;
+        *(eight *)(to + width - 8) = last;
+        bits = first | last;
+    } else {
+        for (size_t i = 0; i < width; i++)
+            bits |= to[i] = from[i];
     }
-    memset(row, 1, stride + 1);
+    return bits;
+}
+
+/* Returns whether a cell byte is above 1. */
+static int fill_field(struct field *field, const uint8_t *cells, size_t width, size_t height)
+{
+    uint8_t *row = field->bytes + LINE;
+    uint64_t bits = 0;
+    memset(field->bytes, BLOCKED, width + 2);
+    for (size_t j = 0; j < height; j++, row += LINE, cells += width) {
+        bits |= copy_row(row + 1, cells, width);
+        row[0] = BLOCKED;
+        row[width + 1] = BLOCKED;
+    }
+    memset(row, BLOCKED, width + 2);
+    return (bits & 0xfefefefefefefefeu) != 0;
 }
 
 /* ---------- refusals ---------- */
 
-/* Whether a byte is above 1, and the place of the first; eight bytes at a time. */
-static int bad_cell(const uint8_t *cells, size_t count, uint64_t *place)
-{
-    size_t i = 0;
-    for (; i + 8 <= count; i += 8) {
-        uint64_t eight;
-        memcpy(&eight, cells + i, 8);
-        if (eight & 0xfefefefefefefefeu)
-            break;
-    }
-    for (; i < count; i++)
-        if (cells[i] > 1) {
-            *place = i;
-            return 1;
-        }
-    return 0;
-}
-
-static uint64_t refusal(const uint8_t *cells, size_t cells_len, size_t width, size_t height,
+/* Refusals 1 to 5. Where it is none of the first three, the field is filled. */
+static uint64_t refusal(struct field *field, const uint8_t *cells, size_t cells_len, size_t width, size_t height,
                         size_t ax, size_t ay, size_t bx, size_t by, uint64_t *place)
 {
     *place = 0;
-    if (width - 1 > 62 || height - 1 > 62)
+    if (width - 1 > LARGEST_SIDE - 1 || height - 1 > LARGEST_SIDE - 1)
         return 1;
     if (cells_len != width * height)
         return 2;
-    if (bad_cell(cells, cells_len, place))
+    if (fill_field(field, cells, width, height)) {
+        while (cells[*place] <= 1)
+            ++*place;
         return 3;
+    }
     if (ax > width || ay > height)
         return 4;
     if (bx > width || by > height)
@@ -80,56 +108,79 @@ static uint64_t refusal(const uint8_t *cells, size_t cells_len, size_t width, si
 
 /* ---------- sight ---------- */
 
-static int axis_sight(const uint8_t *one, const uint8_t *other, ptrdiff_t step, int count)
+/* A leg on an axis: the cells on both sides of each of its edges. */
+INLINE int axis(const uint8_t *one, ptrdiff_t other, ptrdiff_t step, const uint8_t *end)
 {
-    for (; count > 0; count--, one += step, other += step)
-        if (*one & *other)
+    do {
+        if (one[0] & one[other] & BLOCKED)
             return 0;
+        one += step;
+    } while (one != end);
     return 1;
 }
 
-/* The leg from vertex a by dx, dy. The longer difference is the way along, the other the way across; each step along takes
-   one cell or two. s is how far the next line across is, in parts of a cell: below 0 after a step, the leg passed it within
-   the step, and with 0 just at its end, through a corner. */
-static int walk(const struct field *field, int a, int dx, int dy)
+/* A leg n steps along and m across, m <= n, whose first cell is free. ahead is how far it goes on, in parts of a cell, before
+   it leaves its line of cells, less 1: below 0 it leaves it within the next step along, and with -1 just at its end, through a
+   corner. Only there can the leg be at its end, in the last cell. */
+INLINE int slant(const uint8_t *cell, ptrdiff_t along, ptrdiff_t across, int n, int m, const uint8_t *last)
 {
-    const uint8_t *cell = field->cells + a;
-    ptrdiff_t stride = field->stride, along = 1, across = stride;
-    if (dy == 0) {
-        cell += dx < 0 ? dx + 1 : 1;
-        return axis_sight(cell, cell + stride, 1, dx < 0 ? -dx : dx);
-    }
-    if (dx == 0) {
-        cell += dy < 0 ? (dy + 1) * stride : stride;
-        return axis_sight(cell, cell + 1, stride, dy < 0 ? -dy : dy);
-    }
-    if (dx < 0)
-        dx = -dx, along = -1;
-    else
-        cell++;
-    if (dy < 0)
-        dy = -dy, across = -stride;
-    else
-        cell += stride;
-    if (dx < dy) {
-        int shorter = dx;
-        ptrdiff_t sideways = along;
-        dx = dy, dy = shorter;
-        along = across, across = sideways;
-    }
-    for (int left = dx, s = dx;; cell += along) {
-        if (*cell)
-            return 0;
-        s -= dy;
-        if (s <= 0) {
-            cell += across;
-            if (s < 0 && *cell)
+    ptrdiff_t both = along + across;
+    int rest = n - m, ahead = rest - 1;
+    __asm__("" : "+r"(both)); /* held, so that gcc computes no address twice */
+    if (ahead >= 0)
+        goto straight;
+    for (;;) {
+        do {
+            if (ahead == -1) {
+                if (cell == last)
+                    return 1;
+            } else if (cell[across] & BLOCKED)
                 return 0;
-            s += dx;
-        }
-        if (--left == 0)
-            return 1;
+            cell += both;
+            if (*cell & BLOCKED)
+                return 0;
+            ahead += rest;
+        } while (ahead < 0);
+    straight:
+        do {
+            cell += along;
+            if (*cell & BLOCKED)
+                return 0;
+            ahead -= m;
+        } while (ahead >= 0);
     }
+}
+
+/* A leg dx and dy steps of these ways, neither 0. */
+INLINE int steps(const uint8_t *cell, ptrdiff_t x, ptrdiff_t y, int dx, int dy, const uint8_t *last)
+{
+    if (__builtin_expect(*cell & BLOCKED, 0))
+        return 0;
+    return dx > dy ? slant(cell, x, y, dx, dy, last) : slant(cell, y, x, dy, dx, last);
+}
+
+/* The leg by dx, dy from the vertex of field byte a to that of b. */
+INLINE int walk(const uint8_t *a, const uint8_t *b, int dx, int dy)
+{
+    if (dx > 0) {
+        if (dy > 0)
+            return steps(a + LINE + 1, 1, LINE, dx, dy, b);
+        if (dy < 0)
+            return steps(a + 1, 1, -LINE, dx, -dy, b + LINE);
+        return axis(a + 1, LINE, 1, b + 1);
+    }
+    if (dx < 0) {
+        if (dy > 0)
+            return steps(a + LINE, -1, LINE, -dx, dy, b + 1);
+        if (dy < 0)
+            return steps(a, -1, -LINE, -dx, -dy, b + LINE + 1);
+        return axis(a, LINE, -1, b);
+    }
+    if (dy > 0)
+        return axis(a + LINE, 1, LINE, b + LINE);
+    if (dy < 0)
+        return axis(a, 1, -LINE, b);
+    return 1;
 }
 
 struct wexxolin_sight fast_sight(const uint8_t *cells, size_t cells_len, size_t width, size_t height,
@@ -137,171 +188,207 @@ struct wexxolin_sight fast_sight(const uint8_t *cells, size_t cells_len, size_t 
 {
     struct wexxolin_sight answer = {0, 0, 0};
     struct field field;
-    answer.number = refusal(cells, cells_len, width, height, ax, ay, bx, by, &answer.place);
-    if (answer.number == 0) {
-        fill_field(&field, cells, width, height);
-        answer.sight = (uint64_t)walk(&field, (int)(ay * (width + 1) + ax), (int)bx - (int)ax, (int)by - (int)ay);
-    }
+    answer.number = refusal(&field, cells, cells_len, width, height, ax, ay, bx, by, &answer.place);
+    if (answer.number == 0)
+        answer.sight = (uint64_t)walk(field.bytes + ay * LINE + ax, field.bytes + by * LINE + bx, (int)bx - (int)ax, (int)by - (int)ay);
     return answer;
 }
 
 /* ---------- length ---------- */
 
-static inline uint64_t units_of(int dx, int dy)
+/* The root is rounded, and yet none of a square up to 2 * 511 * 511 is rounded up to a whole number of units: all were tried. */
+INLINE uint64_t units_of(int square)
 {
-    int64_t n = (int64_t)(dx * dx + dy * dy) << 40; /* below 2^53, so exact as a double */
-    int64_t u = (int64_t)__builtin_sqrt((double)n);
-    return (uint64_t)(u - (u * u > n)); /* the rounded root may be one too large, never too small */
+    return (uint64_t)(int64_t)(__builtin_sqrt((double)square) * AXIS_UNITS);
 }
 
-uint64_t fast_units(int dx, int dy) { return units_of(dx, dy); }
+uint64_t fast_units(int dx, int dy) { return units_of(dx * dx + dy * dy); }
 
 /* ---------- the open list ---------- */
 
-/* rest is g << 12 | y << 6 | x: equal f, then least g, then least y and x, which is the least vertex number. */
-struct entry {
-    uint64_t f, rest;
+/* A key has f in its highest bits, then how near the goal is, then the place: equal f, then least g, which is the greatest
+   distance from the goal, then least vertex number. An f is below 1482911 * PLACES. */
+#if LARGEST_SIDE <= 127
+typedef uint64_t key;
+#else
+typedef unsigned __int128 key;
+#endif
+
+enum { NEAR_BITS = PLACE_BITS + 1, F_AT = NEAR_BITS + PLACE_BITS };
+
+#if LARGEST_SIDE <= 255
+typedef uint16_t short_place;
+#else
+typedef uint32_t short_place;
+#endif
+
+struct search {
+    struct field field;
+    size_t count;
+    key keys[PLACES + 2];          /* the heap, from 1 on; keys[0] is 0, before all */
+    short_place where[PLACES];     /* in the heap; this and the others are right for seen vertices only */
+    short_place parent[PLACES];
+    uint64_t g[PLACES];
 };
 
-struct heap {
-    unsigned count;
-    struct entry entries[MOST_VERTICES];
-    uint16_t place[MOST_VERTICES]; /* by y << 6 | x; right for open vertices only */
-};
-
-static inline int before(struct entry a, struct entry b)
+INLINE key key_of(uint64_t f, int square, unsigned place)
 {
-    return a.f < b.f || (a.f == b.f && a.rest < b.rest);
+    return (key)f << F_AT | (key)((1u << NEAR_BITS) - 1 - (unsigned)square) << PLACE_BITS | place;
 }
 
-static inline void put(struct heap *heap, unsigned i, struct entry entry)
+INLINE unsigned place_of(key key) { return (unsigned)key & (PLACES - 1); }
+
+INLINE void put(struct search *s, size_t i, key key)
 {
-    heap->entries[i] = entry;
-    heap->place[entry.rest & 4095] = (uint16_t)i;
+    s->keys[i] = key;
+    s->where[place_of(key)] = (short_place)i;
 }
 
-static inline void rise(struct heap *heap, unsigned i, struct entry entry)
+INLINE void rise(struct search *s, size_t i, key key)
 {
-    while (i > 0) {
-        unsigned up = (i - 1) / 2;
-        if (!before(entry, heap->entries[up]))
-            break;
-        put(heap, i, heap->entries[up]);
-        i = up;
+    while (key < s->keys[i / 2]) {
+        put(s, i, s->keys[i / 2]);
+        i /= 2;
     }
-    put(heap, i, entry);
+    put(s, i, key);
 }
 
-static inline struct entry take_first(struct heap *heap)
+/* Takes the first key away: the gap goes down to the end, and the last key rises from there. */
+static inline void take_first(struct search *s)
 {
-    struct entry first = heap->entries[0], last = heap->entries[--heap->count];
-    unsigned i = 0, down = 1, count = heap->count;
-    while (down < count) {
-        if (down + 1 < count && before(heap->entries[down + 1], heap->entries[down]))
-            down++;
-        if (!before(heap->entries[down], last))
-            break;
-        put(heap, i, heap->entries[down]);
+    size_t count = s->count - 1, i = 1, down = 2;
+    key last = s->keys[count + 1];
+    s->keys[count + 1] = (key)-1;
+    s->count = count;
+    while (down <= count) {
+        down += s->keys[down + 1] < s->keys[down];
+        put(s, i, s->keys[down]);
         i = down;
-        down = 2 * i + 1;
+        down = 2 * i;
     }
-    put(heap, i, last);
-    return first;
+    if (count > 0)
+        rise(s, i, last);
 }
 
 /* ---------- the search ---------- */
 
-struct step {
-    int dx, dy;
-    unsigned by; /* what it adds to a vertex number, wrapping round where that is less */
-    unsigned units;
+/* The visible neighbours, one bit each, by which cells around are blocked: 1 upper left, 2 upper right, 4 lower left, 8 lower right. */
+enum { N = 1, NE = 2, E = 4, SE = 8, S = 16, SW = 32, W = 64, NW = 128 };
+#define VISIBLE(nw, ne, sw, se) (255 ^ ((nw & ne) * N | ne * NE | (ne & se) * E | se * SE | (se & sw) * S | sw * SW | (sw & nw) * W | nw * NW))
+#define UPPER(sw, se) VISIBLE(0, 0, sw, se), VISIBLE(1, 0, sw, se), VISIBLE(0, 1, sw, se), VISIBLE(1, 1, sw, se)
+static const uint8_t visible_by[16] = {UPPER(0, 0), UPPER(1, 0), UPPER(0, 1), UPPER(1, 1)};
+
+INLINE unsigned visible(const uint8_t *at)
+{
+    typedef uint16_t two __attribute__((aligned(1), may_alias)); /* the first byte is the lower half */
+    unsigned four = (*(const two *)at & 0x101) | (*(const two *)(at + LINE) & 0x101) << 2;
+    return visible_by[(four | four >> 7) & 15];
+}
+
+/* The vertex that is being expanded: its place and its parent's, their g, and how far the parent and the goal are from it. */
+struct turn {
+    size_t place, parent;
+    uint64_t own_g, parent_g;
+    int px, py, hx, hy;
+    unsigned visible;
+    uint64_t expansions, tests;
 };
 
-static void fill_steps(struct step steps[8], unsigned stride)
+/* The neighbour by dx, dy, which has this bit. The walk starts from it: its end is new, the parent's has been seen before. */
+INLINE void look(struct search *s, struct turn *t, unsigned bit, int dx, int dy)
 {
-    static const struct step ways[8] = {{0, -1, 0, AXIS_UNITS}, {1, -1, 0, DIAGONAL_UNITS}, {1, 0, 0, AXIS_UNITS},
-                                        {1, 1, 0, DIAGONAL_UNITS}, {0, 1, 0, AXIS_UNITS}, {-1, 1, 0, DIAGONAL_UNITS},
-                                        {-1, 0, 0, AXIS_UNITS}, {-1, -1, 0, DIAGONAL_UNITS}};
-    for (int i = 0; i < 8; i++) {
-        steps[i] = ways[i];
-        steps[i].by = (unsigned)ways[i].dy * stride + (unsigned)ways[i].dx;
+    size_t n = t->place + (size_t)(dy * LINE + dx), from = t->parent;
+    uint8_t *byte = s->field.bytes + n;
+    if (!(t->visible & bit) || *byte & EXPANDED)
+        return;
+    int px = t->px - dx, py = t->py - dy;
+    uint64_t new_g, step = dx && dy ? DIAGONAL_UNITS : AXIS_UNITS;
+    t->tests++;
+#if FAST_SKIP_DECIDED
+    if (*byte & SEEN && s->g[n] <= t->parent_g + units_of(px * px + py * py) && s->g[n] <= t->own_g + step)
+        return;
+#endif
+    if (walk(byte, s->field.bytes + from, px, py))
+        new_g = t->parent_g + units_of(px * px + py * py);
+    else
+        new_g = t->own_g + step, from = t->place;
+    if (!(*byte & SEEN)) {
+        int hx = t->hx - dx, hy = t->hy - dy, square = hx * hx + hy * hy;
+        *byte |= SEEN;
+        rise(s, ++s->count, key_of(new_g + units_of(square), square, (unsigned)n));
+    } else if (new_g < s->g[n]) {
+        size_t i = s->where[n];
+        rise(s, i, s->keys[i] - ((key)(s->g[n] - new_g) << F_AT));
+    } else {
+        return;
     }
+    s->g[n] = new_g;
+    s->parent[n] = (short_place)from;
 }
 
-/* Which of the eight steps lead to visible neighbours of vertex v, one bit each. */
-static inline unsigned visible(const struct field *field, unsigned v)
+INLINE void look_around(struct search *s, struct turn *t)
 {
-    const uint8_t *at = field->cells + v, *below = at + field->stride;
-    unsigned nw = at[0], ne = at[1], sw = below[0], se = below[1];
-    return ((nw & ne) | ne << 1 | (ne & se) << 2 | se << 3 | (se & sw) << 4 | sw << 5 | (sw & nw) << 6 | nw << 7) ^ 255;
+    look(s, t, N, 0, -1);
+    look(s, t, NE, 1, -1);
+    look(s, t, E, 1, 0);
+    look(s, t, SE, 1, 1);
+    look(s, t, S, 0, 1);
+    look(s, t, SW, -1, 1);
+    look(s, t, W, -1, 0);
+    look(s, t, NW, -1, -1);
 }
 
-struct search {
-    struct field field;
-    struct heap heap;
+/* The caller's slices. A vertex is written when its g is final: when it is expanded, or at the end. */
+struct slices {
+    size_t stride;
+    uint64_t *g;
+    wexxolin_vertex *parents;
+    uint8_t *marks;
 };
+
+INLINE void write(const struct slices *to, size_t x, size_t y, size_t px, size_t py, uint64_t g, uint8_t mark)
+{
+    size_t v = y * to->stride + x;
+    to->g[v] = g;
+    to->parents[v] = (wexxolin_vertex)(py * to->stride + px);
+    to->marks[v] = mark;
+}
 
 /* Returns whether there is a path; counts[0] expansions, counts[1] tests. */
-static int run(struct search *s, unsigned sx, unsigned sy, unsigned gx, unsigned gy,
-               uint64_t *g, wexxolin_vertex *parents, uint8_t *marks, uint64_t counts[2])
+static int run(struct search *s, size_t start, size_t goal, const struct slices *to, uint64_t counts[2])
 {
-    unsigned stride = (unsigned)s->field.stride, start = sy * stride + sx;
-    uint64_t expansions = 0, tests = 0;
-    int found = 0;
-    struct step steps[8];
-    fill_steps(steps, stride);
-    parents[start] = (wexxolin_vertex)start;
-    marks[start] = OPEN;
-    put(&s->heap, 0, (struct entry){units_of((int)gx - (int)sx, (int)gy - (int)sy), sy << 6 | sx});
-    s->heap.count = 1;
-    while (s->heap.count > 0) {
-        if ((s->heap.entries[0].rest & 4095) == (gy << 6 | gx)) {
+    size_t gx = goal % LINE, gy = goal / LINE;
+    int hx = (int)gx - (int)(start % LINE), hy = (int)gy - (int)(start / LINE), square = hx * hx + hy * hy, found = 0;
+    struct turn t = {.expansions = 0};
+    s->keys[0] = 0;
+    s->count = 1;
+    put(s, 1, key_of(units_of(square), square, (unsigned)start));
+    s->parent[start] = (short_place)start;
+    s->g[start] = 0;
+    while (s->count > 0) {
+        t.place = place_of(s->keys[1]);
+        if (t.place == goal) {
             found = 1;
             break;
         }
-        unsigned yx = take_first(&s->heap).rest & 4095, x = yx & 63, y = yx >> 6, v = y * stride + x;
-        unsigned parent = parents[v], py = parent / stride, px = parent % stride;
-        uint64_t parent_g = g[parent], own_g = g[v];
-        marks[v] = EXPANDED;
-        expansions++;
-        for (unsigned left = visible(&s->field, v); left; left &= left - 1) {
-            const struct step *step = &steps[__builtin_ctz(left)];
-            unsigned n = v + step->by;
-            if (marks[n] == EXPANDED)
-                continue;
-            int nx = (int)x + step->dx, ny = (int)y + step->dy, dx = nx - (int)px, dy = ny - (int)py;
-            unsigned from;
-            uint64_t new_g;
-            tests++;
-#if FAST_SKIP_DECIDED
-            if (marks[n] == OPEN && g[n] <= parent_g + units_of(dx, dy) &&
-                g[n] <= own_g + step->units)
-                continue;
-#endif
-            if (parent == v || walk(&s->field, (int)parent, dx, dy)) { /* the start sees its visible neighbours */
-                from = parent;
-                new_g = parent_g + units_of(dx, dy);
-            } else {
-                from = v;
-                new_g = own_g + step->units;
-            }
-            unsigned nyx = (unsigned)ny << 6 | (unsigned)nx;
-            if (marks[n] == UNSEEN) {
-                uint64_t h = units_of((int)gx - nx, (int)gy - ny);
-                marks[n] = OPEN;
-                rise(&s->heap, s->heap.count++, (struct entry){new_g + h, new_g << 12 | nyx});
-            } else if (new_g < g[n]) {
-                unsigned i = s->heap.place[nyx];
-                rise(&s->heap, i, (struct entry){s->heap.entries[i].f - (g[n] - new_g), new_g << 12 | nyx});
-            } else {
-                continue;
-            }
-            g[n] = new_g;
-            parents[n] = (wexxolin_vertex)from;
-        }
+        take_first(s);
+        t.parent = s->parent[t.place];
+        size_t x = t.place % LINE, y = t.place / LINE, px = t.parent % LINE, py = t.parent / LINE;
+        t.px = (int)px - (int)x, t.py = (int)py - (int)y;
+        t.hx = (int)gx - (int)x, t.hy = (int)gy - (int)y;
+        t.own_g = s->g[t.place], t.parent_g = s->g[t.parent];
+        t.visible = visible(s->field.bytes + t.place);
+        s->field.bytes[t.place] |= EXPANDED;
+        write(to, x, y, px, py, t.own_g, 2);
+        t.expansions++;
+        look_around(s, &t);
     }
-    counts[0] = expansions;
-    counts[1] = tests;
+    for (size_t i = 1; i <= s->count; i++) {
+        size_t p = place_of(s->keys[i]), q = s->parent[p];
+        write(to, p % LINE, p / LINE, q % LINE, q / LINE, s->g[p], 1);
+    }
+    counts[0] = t.expansions;
+    counts[1] = t.tests;
     return found;
 }
 
@@ -311,7 +398,11 @@ struct wexxolin_route fast_route(const uint8_t *cells, size_t cells_len, size_t 
                                  uint8_t *marks, size_t marks_len, wexxolin_vertex *path, size_t path_len)
 {
     struct wexxolin_route answer = {0, 0, 0.0, 0, 0, 0, 0};
-    answer.number = refusal(cells, cells_len, width, height, sx, sy, gx, gy, &answer.place);
+#if LARGEST_SIDE > 127
+    static _Thread_local /* too large for a stack */
+#endif
+    struct search s;
+    answer.number = refusal(&s.field, cells, cells_len, width, height, sx, sy, gx, gy, &answer.place);
     if (answer.number)
         return answer;
     size_t stride = width + 1, count = stride * (height + 1), start = sy * stride + sx, goal = gy * stride + gx;
@@ -323,10 +414,9 @@ struct wexxolin_route fast_route(const uint8_t *cells, size_t cells_len, size_t 
     memset(parents, 0, count * sizeof *parents);
     memset(marks, 0, count);
 
-    struct search s;
+    struct slices to = {stride, g, parents, marks};
     uint64_t counts[2];
-    fill_field(&s.field, cells, width, height);
-    if (!run(&s, (unsigned)sx, (unsigned)sy, (unsigned)gx, (unsigned)gy, g, parents, marks, counts)) {
+    if (!run(&s, sy * LINE + sx, gy * LINE + gx, &to, counts)) {
         answer.number = 8;
         answer.expansions = counts[0];
         answer.tests = counts[1];

@@ -4,10 +4,15 @@
 
 #include "../include/wexxolin.h"
 
+/* The largest side of a board: 63, 127, 255 or 511, with a wexxolin_vertex that has room for its vertices' numbers. */
+#ifndef LARGEST_SIDE
+#define LARGEST_SIDE 63
+#endif
+
 struct wexxolin_sight fast_sight(const uint8_t *cells, size_t cells_len, size_t width, size_t height,
                                  size_t ax, size_t ay, size_t bx, size_t by);
 
-/* The length in units of a leg whose differences are at most 63 in size. */
+/* The length in units of a leg whose differences are at most LARGEST_SIDE in size. */
 uint64_t fast_units(int dx, int dy);
 
 struct wexxolin_route fast_route(const uint8_t *cells, size_t cells_len, size_t width, size_t height,

@@ -2,8 +2,9 @@
 
        nets WIDTH HEIGHT PERCENT ENDS NETS SEED [ROUTED]
 
-   Makes NETS boards with PERCENT in 100 cells blocked and a net on each, from corner to corner (ENDS corners) or between
-   random vertices (ENDS random), then routes the first ROUTED of them (all if not given). The making costs the same whatever
+   Makes NETS boards with PERCENT in 100 cells blocked and a net on each, from corner to corner (ENDS corners), between random
+   vertices (ENDS random), or from a random vertex to itself, so that nothing is expanded (ENDS equal). Then it routes the first
+   ROUTED of them (all if not given). The making costs the same whatever
    ROUTED is, so the difference of two runs is the price of the nets between. Prints sums that any right router must reach. */
 #include "../include/wexxolin.h"
 #include "../tests/boards.h"
@@ -12,7 +13,11 @@
 #include <stdlib.h>
 #include <string.h>
 
-enum { MOST_VERTICES = 64 * 64 };
+#ifndef LARGEST_SIDE
+#define LARGEST_SIDE 63
+#endif
+
+enum { MOST_VERTICES = (LARGEST_SIDE + 1) * (LARGEST_SIDE + 1) };
 
 struct ends {
     size_t sx, sy, gx, gy;
@@ -21,14 +26,14 @@ struct ends {
 int main(int argc, char **argv)
 {
     if (argc < 7) {
-        fprintf(stderr, "usage: nets WIDTH HEIGHT PERCENT corners|random NETS SEED [ROUTED]\n");
+        fprintf(stderr, "usage: nets WIDTH HEIGHT PERCENT corners|random|equal NETS SEED [ROUTED]\n");
         return 2;
     }
     size_t width = strtoul(argv[1], NULL, 10), height = strtoul(argv[2], NULL, 10), percent = strtoul(argv[3], NULL, 10);
     size_t nets = strtoul(argv[5], NULL, 10), routed = argc > 7 ? strtoul(argv[7], NULL, 10) : nets;
-    int corners = strcmp(argv[4], "corners") == 0;
+    int corners = strcmp(argv[4], "corners") == 0, equal = strcmp(argv[4], "equal") == 0;
     struct dice dice = dice_of(strtoull(argv[6], NULL, 10));
-    if (width < 1 || width > 63 || height < 1 || height > 63 || routed > nets)
+    if (width < 1 || width > LARGEST_SIDE || height < 1 || height > LARGEST_SIDE || routed > nets)
         return 2;
 
     uint8_t *cells = malloc(nets * width * height);
@@ -38,6 +43,8 @@ int main(int argc, char **argv)
         board_scattered(&dice, cells + k * width * height, width, height, percent);
         e->sx = dice_below(&dice, width + 1), e->sy = dice_below(&dice, height + 1);
         e->gx = dice_below(&dice, width + 1), e->gy = dice_below(&dice, height + 1);
+        if (equal)
+            e->gx = e->sx, e->gy = e->sy;
         if (corners) {
             e->sx = e->sy = 0, e->gx = width, e->gy = height;
             cells[k * width * height] = cells[(k + 1) * width * height - 1] = 0; /* else the corner could not be left */

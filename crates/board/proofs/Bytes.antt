@@ -12,7 +12,7 @@ use lib.ListN.{length, getD, drop}
 use lib.Seq.{drop-cons, drop-length}
 use borrow.Author.Tests.{le-leb, lt-leb, le-ltb, lt-ltb}
 use Rattle.laws.proofs.Tests.{order, or-false}
-use Rattle.board.specs.Paper.{firstBad}
+use Rattle.board.specs.Handed.{firstBad}
 
 module _ (l : List ℕ) (i : ℕ) where
   pub bad-here : i < length l → 1 < getD l i 0 → firstBad (drop i l) ≡ 0

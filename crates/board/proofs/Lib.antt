@@ -1,5 +1,5 @@
 pub mod Bytes
 pub mod Numbers
-pub mod Screens
+pub mod Verdicts
 pub mod Rows
 pub mod Determined

@@ -3,7 +3,7 @@ use mathlib.Core.Path.{_≡_, _∙_}
 use Prim.Native.Nat.{ℕ, _+_, _*_, _^_, _≤_, _<_}
 use native.Mathlib.Nat.{mul-le-mul, mul-le-mul-right, le-trans, lt-of-le-of-lt, div-add-mod', mod-lt, mul-add-mod-self-right, mod-eq-of-lt, div-eq-of-lt-le, div-lt-iff-lt-mul}
 use native.Mathlib.Omega.{arith}
-use Rattle.board.specs.Limits.{side, vertexBits, mostVertices, vertices-fit}
+use Rattle.board.specs.Limits.{largestSide, vertexBits, mostVertices, vertices-fit}
 use Rattle.board.specs.Board.{numberOf, columnOf, rowOf}
 
 pub cell-index : (w h x y : ℕ) → x < w → y < h → y * w + x < w * h
@@ -14,18 +14,18 @@ pub number-below : (w h x y : ℕ) → x ≤ w → y ≤ h → numberOf w x y < 
 number-below w h x y hx hy = let l : y + 1 ≤ h + 1 = omega arith in omega (arith, mul-le-mul-right (w + 1) l)
 
 -- on the largest board too, so that it fits
-pub number-fits : (w x y : ℕ) → w ≤ side → x ≤ w → y ≤ side → numberOf w x y < 2 ^ vertexBits
+pub number-fits : (w x y : ℕ) → w ≤ largestSide → x ≤ w → y ≤ largestSide → numberOf w x y < 2 ^ vertexBits
 number-fits w x y hw hx hy = lt-of-le-of-lt (le-trans below wide) vertices-fit
   where
-    below : numberOf w x y ≤ (w + 1) * (side + 1)
-    below = omega (arith, number-below w side x y hx hy)
+    below : numberOf w x y ≤ (w + 1) * (largestSide + 1)
+    below = omega (arith, number-below w largestSide x y hx hy)
 
-    wide : (w + 1) * (side + 1) ≤ mostVertices
-    wide = let l : w + 1 ≤ side + 1 = omega arith in mul-le-mul-right (side + 1) l
+    wide : (w + 1) * (largestSide + 1) ≤ mostVertices
+    wide = let l : w + 1 ≤ largestSide + 1 = omega arith in mul-le-mul-right (largestSide + 1) l
 
 -- no board has more vertices than the largest
-pub vertices-few : (w h : ℕ) → w ≤ side → h ≤ side → (w + 1) * (h + 1) ≤ mostVertices
-vertices-few w h p q = let l : w + 1 ≤ side + 1 = omega arith in let m : h + 1 ≤ side + 1 = omega arith in mul-le-mul l m
+pub vertices-few : (w h : ℕ) → w ≤ largestSide → h ≤ largestSide → (w + 1) * (h + 1) ≤ mostVertices
+vertices-few w h p q = let l : w + 1 ≤ largestSide + 1 = omega arith in let m : h + 1 ≤ largestSide + 1 = omega arith in mul-le-mul l m
 
 -- ---- number, column and row undo each other
 

@@ -1,11 +1,9 @@
 -- A board of square cells, its vertices and their numbers, as document 01 has them.
-use Prim.Native.Nat.{ℕ, _+_, _*_, _/_, _%_, _≤_}
-use mathlib.Core.Path.{_≡_}
+use Prim.Native.Nat.{ℕ, _+_, _*_, _/_, _%_}
 use mathlib.Core.Bool.{Bool, not, _&&_, _||_}
 use mathlib.Core.List.{List}
 use lib.Dec.{leb, ltb, eqb}
-use lib.ListN.{length, getD}
-use Rattle.board.specs.Limits.{side}
+use lib.ListN.{getD}
 
 -- the cells row by row, a number each: 0 free, 1 blocked
 pub record Board : Type 0 where
@@ -49,16 +47,3 @@ column b = columnOf (b .width)
 
 abbrev pub row : Board → ℕ → ℕ
 row b = rowOf (b .width)
-
--- what the checks 1 and 2 leave; nothing is needed of 3: a byte blocks exactly if it is 1
-pub record Sound (b : Board) : Type 0 where
-  pub wide : 1 ≤ b .width
-  pub narrow : b .width ≤ side
-  pub high : 1 ≤ b .height
-  pub low : b .height ≤ side
-  pub full : length (b .cells) ≡ b .width * b .height
-
--- (x, y) is a vertex of the board
-pub record OnBoard (b : Board) (x y : ℕ) : Type 0 where
-  pub x-on : x ≤ b .width
-  pub y-on : y ≤ b .height

@@ -1,3 +1,4 @@
 pub mod Limits
 pub mod Board
-pub mod Paper
+pub mod Handed
+pub mod Inner

@@ -3,8 +3,8 @@ use Prim.Native.Nat.{ℕ, _+_, _*_, _^_, _<_}
 use lib.Dec.{lit<}
 
 -- a board's sides go from 1 to this
-abbrev pub side : ℕ
-side = 63
+abbrev pub largestSide : ℕ
+largestSide = 63
 
 -- a vertex number has this many bits
 abbrev pub vertexBits : ℕ
@@ -12,7 +12,7 @@ vertexBits = 16
 
 -- the most vertices that a board has
 abbrev pub mostVertices : ℕ
-mostVertices = (side + 1) * (side + 1)
+mostVertices = (largestSide + 1) * (largestSide + 1)
 
 -- a vertex number fits, and so does the number of vertices: where the side meets the bits
 pub vertices-fit : mostVertices < 2 ^ vertexBits

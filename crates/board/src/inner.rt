@@ -3,9 +3,10 @@ ghost use mathlib.Core.Path.{_≡_};
 ghost use mathlib.Core.Bool.{_&&_};
 ghost use lib.Dec.{leb};
 ghost use Prim.Native.Nat.{_-_, _≤_, _<_};
-ghost use Rattle.board.specs.Limits.{side};
-ghost use Rattle.board.specs.Board.{Sound, board, blocked, numberOf, columnOf, rowOf};
-ghost use Rattle.board.specs.Paper.{sideFits};
+ghost use Rattle.board.specs.Limits.{largestSide};
+ghost use Rattle.board.specs.Board.{board, blocked, numberOf, columnOf, rowOf};
+ghost use Rattle.board.specs.Inner.{Sound};
+ghost use Rattle.board.specs.Handed.{sideFits};
 use crate::SIDE;
 use crate::Vertex;
 
@@ -41,7 +42,7 @@ pub fn is_vertex(width: usize, height: usize, x: usize, y: usize) -> bool
 
 // A vertex's number.
 pub fn number_of(width: usize, x: usize, y: usize) -> Vertex
-    requires { ⌜ (width ≤ side) × (x ≤ width) × (y ≤ side) ⌝ }
+    requires { ⌜ (width ≤ largestSide) × (x ≤ width) × (y ≤ largestSide) ⌝ }
     ensures { λ r. ⌜ r ≡ numberOf width x y ⌝ }
 {
     (y * (width + 1) + x) as Vertex
@@ -49,7 +50,7 @@ pub fn number_of(width: usize, x: usize, y: usize) -> Vertex
 
 // The column of a vertex number.
 pub fn column_of(width: usize, v: Vertex) -> usize
-    requires { ⌜ width ≤ side ⌝ }
+    requires { ⌜ width ≤ largestSide ⌝ }
     ensures { λ r. ⌜ r ≡ columnOf width v ⌝ }
 {
     v as usize % (width + 1)
@@ -57,7 +58,7 @@ pub fn column_of(width: usize, v: Vertex) -> usize
 
 // The row of a vertex number.
 pub fn row_of(width: usize, v: Vertex) -> usize
-    requires { ⌜ width ≤ side ⌝ }
+    requires { ⌜ width ≤ largestSide ⌝ }
     ensures { λ r. ⌜ r ≡ rowOf width v ⌝ }
 {
     v as usize / (width + 1)

@@ -2,9 +2,9 @@
 ghost use mathlib.Core.Path.{_≡_};
 ghost use lib.Dec.{ltb};
 ghost use lib.ListN.{length};
-ghost use Rattle.board.specs.Limits.{side, mostVertices};
+ghost use Rattle.board.specs.Limits.{largestSide, mostVertices};
 ghost use Rattle.board.specs.Board.{board};
-ghost use Rattle.board.specs.Paper.{handed, firstBad, boardRows, legRows, accepted};
+ghost use Rattle.board.specs.Handed.{firstBad, boardRows, legRows, refusalRow, verdict, numberIn, placeIn};
 use inner::is_vertex;
 use inner::side_fits;
 
@@ -22,9 +22,8 @@ pub const LINE: usize = SIDE + 1;
 // The most vertices of a whole board.
 pub const MOST: usize = LINE * LINE;
 
-// What the checks of a request say: document 01's numbers 1 to 5, or nothing to object to.
-pub enum Checked {
-    Accepted,
+// Why the checks refuse a request: document 01's numbers 1 to 5, a bad cell byte with its index.
+pub enum Refusal {
     Side,
     Count,
     Byte(usize),
@@ -32,9 +31,43 @@ pub enum Checked {
     Second,
 }
 
+impl Refusal {
+    // Document 01's number.
+    pub fn number(self) -> u64
+        ensures { λ r. ⌜ r ≡ numberIn (refusalRow self) ⌝ }
+    {
+        match self {
+            Refusal::Side => 1,
+            Refusal::Count => 2,
+            Refusal::Byte(_) => 3,
+            Refusal::First => 4,
+            Refusal::Second => 5,
+        }
+    }
+
+    // The index of the bad byte, 0 where no place is named.
+    pub fn place(self) -> usize
+        ensures { λ r. ⌜ r ≡ placeIn (refusalRow self) ⌝ }
+    {
+        match self {
+            Refusal::Side => 0,
+            Refusal::Count => 0,
+            Refusal::Byte(at) => at,
+            Refusal::First => 0,
+            Refusal::Second => 0,
+        }
+    }
+}
+
+// What the checks of a request say.
+pub enum Checked {
+    Accepted,
+    Refused(Refusal),
+}
+
 // The code's largest side is the definition's.
 pub fn largest_side() -> usize
-    ensures { λ r. ⌜ r ≡ side ⌝ }
+    ensures { λ r. ⌜ r ≡ largestSide ⌝ }
 {
     SIDE
 }
@@ -76,20 +109,20 @@ fn first_bad(cells: &[u8]) -> usize
 
 // Refusals 1, 2 and 3: sides, number of cells, cell bytes.
 pub fn check_board(cells: &[u8], width: usize, height: usize) -> Checked
-    ensures { λ r. ⌜ handed r ≡ boardRows (board (now (cells .entry)) width height) accepted ⌝ }
+    ensures { λ r. ⌜ verdict r ≡ boardRows (board (now (cells .entry)) width height) ⌝ }
 {
     if !side_fits(width) {
-        return Checked::Side;
+        return Checked::Refused(Refusal::Side);
     }
     if !side_fits(height) {
-        return Checked::Side;
+        return Checked::Refused(Refusal::Side);
     }
     if cells.len() != width * height {
-        return Checked::Count;
+        return Checked::Refused(Refusal::Count);
     }
     let at = first_bad(cells);
     if at < cells.len() {
-        return Checked::Byte(at);
+        return Checked::Refused(Refusal::Byte(at));
     }
     Checked::Accepted
 }
@@ -104,17 +137,17 @@ pub fn check_leg(
     bx: usize,
     by: usize,
 ) -> Checked
-    ensures { λ r. ⌜ handed r ≡ legRows (board (now (cells .entry)) width height) ax ay bx by accepted ⌝ }
+    ensures { λ r. ⌜ verdict r ≡ legRows (board (now (cells .entry)) width height) ax ay bx by ⌝ }
 {
     let checked = check_board(cells, width, height);
     let Checked::Accepted = checked else {
         return checked;
     };
     if !is_vertex(width, height, ax, ay) {
-        return Checked::First;
+        return Checked::Refused(Refusal::First);
     }
     if !is_vertex(width, height, bx, by) {
-        return Checked::Second;
+        return Checked::Refused(Refusal::Second);
     }
     Checked::Accepted
 }

@@ -3,27 +3,20 @@ use mathlib.Core.Path.{_≡_, sym, ap, _∙_}
 use mathlib.Core.List.{List}
 use Prim.Native.Nat.{ℕ}
 use Rattle.board.specs.Board.{Board}
-use Rattle.router.proofs.Determined.{answer-determined, g-determined, parents-determined, marks-determined, way-determined}
+use Rattle.search.specs.Problem.{problem}
+use Rattle.router.specs.Answers.{Slices, slicesAfter}
 use Rattle.capi.specs.declared.Found.{Found}
 use Rattle.capi.specs.declared.Sides.{Sides}
-use Rattle.capi.specs.Told.{toldRoute, RoutedForC, ReadForC}
+use Rattle.capi.specs.Told.{RoutedForC, ReadForC}
 
 -- of `wexxolin_route`
-pub route-determined : {b : Board} {sx sy gx gy : ℕ} {g parents marks way g₁ parents₁ marks₁ way₁ g₂ parents₂ marks₂ way₂ : List ℕ} {r s : Found}
-    → RoutedForC b sx sy gx gy g parents marks way g₁ parents₁ marks₁ way₁ r → RoutedForC b sx sy gx gy g parents marks way g₂ parents₂ marks₂ way₂ s
-    → (r ≡ s) × (g₁ ≡ g₂) × (parents₁ ≡ parents₂) × (marks₁ ≡ marks₂) × (way₁ ≡ way₂)
-route-determined R S =
-    let a = R .answer in
-    let c = S .answer in
-    let F = R .routed in
-    let G = S .routed in (
-      R .told ∙ ap toldRoute (answer-determined a c F G) ∙ sym (S .told),
-      g-determined a c F G,
-      parents-determined a c F G,
-      marks-determined a c F G,
-      way-determined a c F G,
-    )
+pub route-determined : {b : Board} {sx sy gx gy : ℕ} {before after₁ after₂ : Slices} {r s : Found}
+    → RoutedForC b sx sy gx gy before after₁ r → RoutedForC b sx sy gx gy before after₂ s → (r ≡ s) × (after₁ ≡ after₂)
+route-determined {b} {sx} {sy} {gx} {gy} {before} R S =
+    let same = R .told ∙ sym (S .told) in
+    (same, R .after-is ∙ ap (λ (x : Found). slicesAfter (problem b sx sy gx gy) (x .number) before) same ∙ sym (S .after-is))
 
 -- of `wexxolin_board`
-pub board-determined : {job lent left right : List ℕ} {r s : Sides} → ReadForC job lent r left → ReadForC job lent s right → (r ≡ s) × (left ≡ right)
-board-determined R S = (R .told ∙ sym (S .told), R .cells ∙ sym (S .cells))
+pub board-determined : {job before after₁ after₂ : List ℕ} {r s : Sides} → ReadForC job before r after₁ → ReadForC job before s after₂
+    → (r ≡ s) × (after₁ ≡ after₂)
+board-determined R S = (R .told ∙ sym (S .told), R .after-is ∙ sym (S .after-is))

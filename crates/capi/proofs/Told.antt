@@ -1,54 +1,60 @@
--- An answer that is known to be one variant is told as that variant is: `search` finds each arm of a match by one of these. Assumes nothing.
-use mathlib.Core.Path.{_≡_, ap₂, _∙_}
+-- What C gets of an answer is told from what it hands back: each arm of a match by one of these. Assumes nothing.
+use mathlib.Core.Path.{_≡_, refl, sym, ap, ap₂, _∙_}
 use Prim.Native.Nat.{ℕ}
-use Rattle.board.specs.Paper.{refusal}
-use Rattle.length.specs.declared.Measured.{Measured}
-use Rattle.length.specs.declared.Aimed.{Aimed}
-use Rattle.length.specs.Paper.{handedLength, handedDirection}
-use Rattle.sight.specs.declared.Answer.{Answer}
-use Rattle.sight.specs.Paper.{handed}
-use Rattle.router.specs.declared.Answer as router
+use Rattle.board.specs.declared.Refusal.{Refusal}
+use Rattle.board.specs.declared.Refusal.the-variants as board
+use Rattle.board.specs.Handed.{Verdict, refused, Handed, judged, refusalRow, numberIn, placeIn}
+use Rattle.board.specs.Board.{Board}
+use Rattle.search.specs.Problem.{problem}
+use Rattle.router.specs.Answers.{Route, Slices, slicesAfter, Routed}
 use Rattle.job.specs.declared.JobRefusal.{JobRefusal}
-use Rattle.job.specs.declared.BoardAnswer.{BoardAnswer}
-use Rattle.job.specs.declared.BoardAnswer.the-variants as board-read
-use Rattle.job.specs.declared.NetAnswer.{NetAnswer}
-use Rattle.job.specs.declared.NetAnswer.the-variants as net-read
-use Rattle.job.specs.Paper.{handedRefusal, handedBoard, handedNet}
-use Rattle.job.proofs.Judging.{is-refusal}
-use Rattle.capi.specs.declared.Seen.{Seen}
-use Rattle.capi.specs.declared.Long as long
-use Rattle.capi.specs.declared.Toward.{Toward}
+use Rattle.job.specs.Refusals as job
+use Rattle.job.specs.declared.JobRefusal.the-variants.{Long, Uneven, Order, Stray, Side, Keepout, End, Number, Late}
 use Rattle.capi.specs.declared.Found.{Found}
-use Rattle.capi.specs.declared.Sides.{Sides}
-use Rattle.capi.specs.declared.Ends.{Ends}
-use Rattle.capi.specs.Told.{toldSight, toldLength, toldDirection, toldRoute, toldBoard, toldNet}
+use Rattle.capi.specs.Told.{toldRoute, RoutedForC}
 
-pub sight-as : {a b : Answer} {r : Seen} → a ≡ b → r ≡ toldSight (handed b) → r ≡ toldSight (handed a)
-sight-as e f = rw e f
+-- an answer that is known to be one variant is told as that variant is
+pub told-as : {Answer Values Told : Type 0} (handed : Answer → Handed Values) (told : Handed Values → Told) {a b : Answer} {r : Told} → a ≡ b
+    → r ≡ told (handed b) → r ≡ told (handed a)
+told-as handed told e f = f ∙ ap (λ x. told (handed x)) (sym e)
 
-pub length-as : {a b : Measured} {r : long.Long} → a ≡ b → r ≡ toldLength (handedLength b) → r ≡ toldLength (handedLength a)
-length-as e f = rw e f
+-- a refused answer is told by the refusal's number and place
+pub told-refused : {Answer Values Told : Type 0} (handed : Answer → Handed Values) (told : Handed Values → Told) (none : Values) {v w : Verdict} {a b : Answer}
+    {r : Told} → a ≡ b → handed b ≡ judged none w → v ≡ w → r ≡ told (judged none v) → r ≡ told (handed a)
+told-refused handed told none e f g h = told-as handed told e (h ∙ ap (λ v. told (judged none v)) g ∙ ap told (sym f))
 
-pub direction-as : {a b : Aimed} {r : Toward} → a ≡ b → r ≡ toldDirection (handedDirection b) → r ≡ toldDirection (handedDirection a)
-direction-as e f = rw e f
+-- ---- a refusal is its number and its place
 
-pub route-as : {a b : router.Answer} {r : Found} → a ≡ b → r ≡ toldRoute b → r ≡ toldRoute a
-route-as e f = rw e f
+pub refusal-is : (why : Refusal) {n p : ℕ} → n ≡ numberIn (refusalRow why) → p ≡ placeIn (refusalRow why) → refused n p 0 ≡ refusalRow why
+refusal-is why e f = ap₂ (λ (n p : ℕ). refused n p 0) e f ∙ go why
+  where
+    go : (w : Refusal) → refused (numberIn (refusalRow w)) (placeIn (refusalRow w)) 0 ≡ refusalRow w
+    go board.Side = refl
+    go board.Count = refl
+    go (board.Byte at) = refl
+    go board.First = refl
+    go board.Second = refl
 
-pub board-as : {a b : BoardAnswer} {r : Sides} → a ≡ b → r ≡ toldBoard (handedBoard b) → r ≡ toldBoard (handedBoard a)
-board-as e f = rw e f
+-- a job's too
+pub job-refusal-is : (why : JobRefusal) {n p : ℕ} → n ≡ numberIn (job.refusalRow why) → p ≡ placeIn (job.refusalRow why) → refused n p 0 ≡ job.refusalRow why
+job-refusal-is why e f = ap₂ (λ (n p : ℕ). refused n p 0) e f ∙ go why
+  where
+    go : (w : JobRefusal) → refused (numberIn (job.refusalRow w)) (placeIn (job.refusalRow w)) 0 ≡ job.refusalRow w
+    go Long = refl
+    go Uneven = refl
+    go (Order i) = refl
+    go (Stray i) = refl
+    go (Side i) = refl
+    go (Keepout i) = refl
+    go (End i) = refl
+    go (Number i) = refl
+    go (Late i) = refl
 
-pub net-as : {a b : NetAnswer} {r : Ends} → a ≡ b → r ≡ toldNet (handedNet b) → r ≡ toldNet (handedNet a)
-net-as e f = rw e f
+-- ---- a route for C is the route call's
 
--- ---- a job's refusal is its number and its place
-
-module _ (w : JobRefusal) {n p : ℕ} (e : n ≡ handedRefusal w .number) (f : p ≡ handedRefusal w .place) where
-  whole : refusal n p ≡ handedRefusal w
-  whole = let (m, q, i) = is-refusal w in ap₂ (λ (n p : ℕ). refusal n p) e f ∙ rw i
-
-  pub board-why : {a : BoardAnswer} {r : Sides} → a ≡ board-read.Refused w → r ≡ toldBoard (refusal n p) → r ≡ toldBoard (handedBoard a)
-  board-why g h = rw (g, ← whole) h
-
-  pub net-why : {a : NetAnswer} {r : Ends} → a ≡ net-read.Refused w → r ≡ toldNet (refusal n p) → r ≡ toldNet (handedNet a)
-  net-why g h = rw (g, ← whole) h
+pub routed-for-c : {b : Board} {sx sy gx gy : ℕ} {before after : Slices} {h : Handed Route} {r : Found} → Routed b sx sy gx gy before after h
+    → r ≡ toldRoute h → RoutedForC b sx sy gx gy before after r
+routed-for-c {b} {sx} {sy} {gx} {gy} {before} R e = record {
+  told = e ∙ ap toldRoute (R .row-is);
+  after-is = R .after-is ∙ ap (λ (n : ℕ). slicesAfter (problem b sx sy gx gy) n before) (sym (ap (λ (f : Found). f .number) e));
+}

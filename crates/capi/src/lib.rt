@@ -1,13 +1,13 @@
 // The calls for C, as include/wexxolin.h declares them.
 ghost use mathlib.Core.Path.{_≡_};
+ghost use Prim.Native.Nat.{_^_, _<_};
 ghost use Rattle.board.specs.Board.{board};
-ghost use Rattle.length.specs.Legs.{legByDifferences, legByVertices};
-ghost use Rattle.board.specs.Paper.{refusal};
-ghost use Rattle.length.specs.Paper.{lengthRow, directionRow, handedLength, handedDirection};
-ghost use Rattle.sight.specs.Paper.{sightRow};
-ghost use Rattle.sight.specs.Paper as sight;
-ghost use Rattle.job.specs.Paper.{handedBoard, handedNet, netRow};
-ghost use Rattle.capi.specs.Told.{toldSight, toldLength, toldDirection, noRoute, toldRoute, toldBoard, toldNet, RoutedForC, ReadForC};
+ghost use Rattle.board.specs.Handed.{refused, judged};
+ghost use Rattle.length.specs.Answers.{noLength, noDirection, handedLength, handedDirection, lengthRow, lengthBetweenRow, directionRow, directionBetweenRow};
+ghost use Rattle.sight.specs.Answers.{unseen, handedSight, sightRow};
+ghost use Rattle.router.specs.Answers.{noRoute, handedRoute, slices};
+ghost use Rattle.job.specs.Answers.{noSides, noNet, handedBoard, handedNet, netRow};
+ghost use Rattle.capi.specs.Told.{toldSight, toldLength, toldDirection, toldRoute, toldBoard, toldNet, RoutedForC, ReadForC};
 use board::Vertex;
 use job::BoardAnswer;
 use job::NetAnswer;
@@ -17,6 +17,7 @@ use length::Aimed;
 use length::Direction;
 use length::Length;
 use length::Measured;
+use length::inner::exact_cells;
 use router::route;
 use sight::Answer;
 use sight::sight;
@@ -71,7 +72,7 @@ pub struct Sides {
 
 // A job's net.
 #[repr(C)]
-pub struct Ends {
+pub struct Net {
     pub number: u64,
     pub place: u64,
     pub net: u64,
@@ -83,7 +84,7 @@ pub struct Ends {
 
 // What C gets of an answer on sight.
 fn tell_sight(answer: Answer) -> Seen
-    ensures { λ r. ⌜ r ≡ toldSight (sight.handed answer) ⌝ }
+    ensures { λ r. ⌜ r ≡ toldSight (handedSight answer) ⌝ }
 {
     match answer {
         Answer::Yes => Seen {
@@ -96,16 +97,12 @@ fn tell_sight(answer: Answer) -> Seen
             place: 0,
             sight: 0,
         },
-        Answer::Side => refuse_sight(1, 0),
-        Answer::Count => refuse_sight(2, 0),
-        Answer::Byte(at) => refuse_sight(3, at as u64),
-        Answer::First => refuse_sight(4, 0),
-        Answer::Second => refuse_sight(5, 0),
+        Answer::Refused(why) => refuse_sight(why.number(), why.place() as u64),
     }
 }
 
 fn refuse_sight(number: u64, place: u64) -> Seen
-    ensures { λ r. ⌜ r ≡ toldSight (refusal number place) ⌝ }
+    ensures { λ r. ⌜ r ≡ toldSight (judged unseen (refused number place 0)) ⌝ }
 {
     Seen {
         number,
@@ -130,8 +127,9 @@ pub extern "C" fn wexxolin_sight(
     tell_sight(sight(cells, width, height, ax, ay, bx, by))
 }
 
-// What C gets of a length.
+// What C gets of a length; the cast of its units loses nothing.
 fn tell_length(measured: Measured) -> Long
+    requires { ⌜ handedLength measured .values .units < 2 ^ 53 ⌝ }
     ensures { λ r. ⌜ r ≡ toldLength (handedLength measured) ⌝ }
 {
     match measured {
@@ -139,29 +137,27 @@ fn tell_length(measured: Measured) -> Long
             number: 0,
             place: 0,
             units: l.units,
-            cells: l.cells(),
+            cells: exact_cells(l.units),
         },
-        Measured::First => refuse_length(4),
-        Measured::Second => refuse_length(5),
+        Measured::Refused(why) => refuse_length(why.number(), why.place() as u64),
     }
 }
 
-fn refuse_length(number: u64) -> Long
-    ensures { λ r. ⌜ r ≡ toldLength (refusal number 0) ⌝ }
+fn refuse_length(number: u64, place: u64) -> Long
+    ensures { λ r. ⌜ r ≡ toldLength (judged noLength (refused number place 0)) ⌝ }
 {
-    let nothing = Length { units: 0 };
     Long {
         number,
-        place: 0,
+        place,
         units: 0,
-        cells: nothing.cells(),
+        cells: exact_cells(0),
     }
 }
 
 // The length of a leg by its differences.
 #[no_mangle]
 pub extern "C" fn wexxolin_length(dx: i32, dy: i32) -> Long
-    ensures { λ r. ⌜ r ≡ toldLength (lengthRow (legByDifferences dx dy)) ⌝ }
+    ensures { λ r. ⌜ r ≡ toldLength (lengthRow dx dy) ⌝ }
 {
     tell_length(Length::of(dx, dy))
 }
@@ -169,7 +165,7 @@ pub extern "C" fn wexxolin_length(dx: i32, dy: i32) -> Long
 // The length of a leg by its vertices.
 #[no_mangle]
 pub extern "C" fn wexxolin_length_between(ax: usize, ay: usize, bx: usize, by: usize) -> Long
-    ensures { λ r. ⌜ r ≡ toldLength (lengthRow (legByVertices ax ay bx by)) ⌝ }
+    ensures { λ r. ⌜ r ≡ toldLength (lengthBetweenRow ax ay bx by) ⌝ }
 {
     tell_length(Length::between(ax, ay, bx, by))
 }
@@ -185,18 +181,17 @@ fn tell_direction(aimed: Aimed) -> Toward
             x: d.x,
             y: d.y,
         },
-        Aimed::First => refuse_direction(4),
-        Aimed::Second => refuse_direction(5),
-        Aimed::Equal => refuse_direction(9),
+        Aimed::Refused(why) => refuse_direction(why.number(), why.place() as u64),
+        Aimed::Equal => refuse_direction(9, 0),
     }
 }
 
-fn refuse_direction(number: u64) -> Toward
-    ensures { λ r. ⌜ r ≡ toldDirection (refusal number 0) ⌝ }
+fn refuse_direction(number: u64, place: u64) -> Toward
+    ensures { λ r. ⌜ r ≡ toldDirection (judged noDirection (refused number place 0)) ⌝ }
 {
     Toward {
         number,
-        place: 0,
+        place,
         x: 0.0,
         y: 0.0,
     }
@@ -205,7 +200,7 @@ fn refuse_direction(number: u64) -> Toward
 // The direction of a leg by its differences.
 #[no_mangle]
 pub extern "C" fn wexxolin_direction(dx: i32, dy: i32) -> Toward
-    ensures { λ r. ⌜ r ≡ toldDirection (directionRow (legByDifferences dx dy)) ⌝ }
+    ensures { λ r. ⌜ r ≡ toldDirection (directionRow dx dy) ⌝ }
 {
     tell_direction(Direction::of(dx, dy))
 }
@@ -213,13 +208,13 @@ pub extern "C" fn wexxolin_direction(dx: i32, dy: i32) -> Toward
 // The direction of a leg by its vertices.
 #[no_mangle]
 pub extern "C" fn wexxolin_direction_between(ax: usize, ay: usize, bx: usize, by: usize) -> Toward
-    ensures { λ r. ⌜ r ≡ toldDirection (directionRow (legByVertices ax ay bx by)) ⌝ }
+    ensures { λ r. ⌜ r ≡ toldDirection (directionBetweenRow ax ay bx by) ⌝ }
 {
     tell_direction(Direction::between(ax, ay, bx, by))
 }
 
 fn refuse_route(number: u64, place: u64) -> Found
-    ensures { λ r. ⌜ r ≡ noRoute (refusal number place) ⌝ }
+    ensures { λ r. ⌜ r ≡ toldRoute (judged noRoute (refused number place 0)) ⌝ }
 {
     Found {
         number,
@@ -234,7 +229,7 @@ fn refuse_route(number: u64, place: u64) -> Found
 
 // What C gets of a route.
 fn tell_route(answer: router::Answer) -> Found
-    ensures { λ r. ⌜ r ≡ toldRoute answer ⌝ }
+    ensures { λ r. ⌜ r ≡ toldRoute (handedRoute answer) ⌝ }
 {
     match answer {
         router::Answer::Found {
@@ -261,11 +256,7 @@ fn tell_route(answer: router::Answer) -> Found
             expansions,
             tests,
         },
-        router::Answer::Side => refuse_route(1, 0),
-        router::Answer::Count => refuse_route(2, 0),
-        router::Answer::Byte(at) => refuse_route(3, at as u64),
-        router::Answer::First => refuse_route(4, 0),
-        router::Answer::Second => refuse_route(5, 0),
+        router::Answer::Refused(why) => refuse_route(why.number(), why.place() as u64),
         router::Answer::Work => refuse_route(6, 0),
         router::Answer::Short(needed) => refuse_route(7, needed as u64),
     }
@@ -286,7 +277,7 @@ pub extern "C" fn wexxolin_route(
     marks: &mut [u8],
     path: &mut [Vertex],
 ) -> Found
-    ensures { λ r. ⌜ RoutedForC (board (now (cells .entry)) width height) sx sy gx gy (now (g .entry)) (now (parents .entry)) (now (marks .entry)) (now (path .entry)) (now (g .exit)) (now (parents .exit)) (now (marks .exit)) (now (path .exit)) r ⌝ }
+    ensures { λ r. ⌜ RoutedForC (board (now (cells .entry)) width height) sx sy gx gy (slices (now (g .entry)) (now (parents .entry)) (now (marks .entry)) (now (path .entry))) (slices (now (g .exit)) (now (parents .exit)) (now (marks .exit)) (now (path .exit))) r ⌝ }
 {
     tell_route(route(
         cells,
@@ -304,7 +295,7 @@ pub extern "C" fn wexxolin_route(
 }
 
 fn refuse_board(number: u64, place: u64) -> Sides
-    ensures { λ r. ⌜ r ≡ toldBoard (refusal number place) ⌝ }
+    ensures { λ r. ⌜ r ≡ toldBoard (judged noSides (refused number place 0)) ⌝ }
 {
     Sides {
         number,
@@ -344,10 +335,10 @@ pub extern "C" fn wexxolin_board(job: &[u8], board: &mut [u8]) -> Sides
     tell_board(read_board(job, board))
 }
 
-fn refuse_net(number: u64, place: u64) -> Ends
-    ensures { λ r. ⌜ r ≡ toldNet (refusal number place) ⌝ }
+fn refuse_net(number: u64, place: u64) -> Net
+    ensures { λ r. ⌜ r ≡ toldNet (judged noNet (refused number place 0)) ⌝ }
 {
-    Ends {
+    Net {
         number,
         place,
         net: 0,
@@ -359,7 +350,7 @@ fn refuse_net(number: u64, place: u64) -> Ends
 }
 
 // What C gets of a net read.
-fn tell_net(answer: NetAnswer) -> Ends
+fn tell_net(answer: NetAnswer) -> Net
     ensures { λ r. ⌜ r ≡ toldNet (handedNet answer) ⌝ }
 {
     match answer {
@@ -369,7 +360,7 @@ fn tell_net(answer: NetAnswer) -> Ends
             sy,
             gx,
             gy,
-        } => Ends {
+        } => Net {
             number: 0,
             place: 0,
             net: number as u64,
@@ -385,7 +376,7 @@ fn tell_net(answer: NetAnswer) -> Ends
 
 // A job's net by its index from 0.
 #[no_mangle]
-pub extern "C" fn wexxolin_net(job: &[u8], index: usize) -> Ends
+pub extern "C" fn wexxolin_net(job: &[u8], index: usize) -> Net
     ensures { λ r. ⌜ r ≡ toldNet (netRow (now (job .entry)) index) ⌝ }
 {
     tell_net(read_net(job, index))

@@ -1,10 +1,6 @@
-pub mod Says
-pub mod Stepping
-pub mod Judging
-pub mod Rows
+pub mod Refusing
 pub mod Accepted
-pub mod Painting
-pub mod Grid
+pub mod Reading
 pub mod Above
 pub mod Determined
 pub mod Worked

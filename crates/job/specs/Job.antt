@@ -1,28 +1,16 @@
 -- A job: records of 8 bytes, as document 01 has them, and what they mean.
-use Prim.Native.Nat.{ℕ, zero, suc, _+_, _*_, _/_, _%_, _≤_, _<_}
-use mathlib.Core.Path.{_≡_}
-use mathlib.Core.Bool.{Bool, not, _&&_, _||_, cond}
+use Prim.Native.Nat.{ℕ, zero, suc, _*_, _/_, _%_}
+use mathlib.Core.Bool.{Bool, _&&_, cond}
 use mathlib.Core.List.{List, [], _∷_, _++_}
 use lib.Dec.{leb, ltb, eqb}
-use lib.ListN.{length, getD}
 use Rattle.laws.specs.Below.{some, howMany, firstWhere}
-use Rattle.board.specs.Paper.{sideFits}
-
--- the bytes of a record
-abbrev pub recordBytes : ℕ
-recordBytes = 8
+use Rattle.records.specs.Records.{records, byte}
 
 -- the most bytes of a job
 abbrev pub longestJob : ℕ
 longestJob = 8192
 
--- how many records a job has
-abbrev pub records : List ℕ → ℕ
-records job = length job / recordBytes
-
--- byte k of record i
-unfoldable pub byte : List ℕ → (i k : ℕ) → ℕ
-byte job i k = getD job (i * recordBytes + k) 0
+-- ---- record i: its type and its numbers
 
 -- byte 0 is the type
 abbrev pub isBoard : List ℕ → ℕ → Bool
@@ -34,88 +22,54 @@ isKeepout job i = eqb (byte job i 0) 2
 abbrev pub isNet : List ℕ → ℕ → Bool
 isNet job i = eqb (byte job i 0) 3
 
--- the board: byte 2 of record 0 is its width, byte 3 its height
+-- the bytes that a record of a type uses
+unfoldable pub usedBy : (type : ℕ) → List ℕ
+usedBy type =
+    cond (eqb type 1) (0 ∷ 2 ∷ 3 ∷ [])
+    (cond (eqb type 2) (0 ∷ 2 ∷ 3 ∷ 4 ∷ 5 ∷ [])
+    (cond (eqb type 3) (0 ∷ 1 ∷ 2 ∷ 3 ∷ 4 ∷ 5 ∷ [])
+    []))
+
+-- the coordinate that byte k gives
+unfoldable pub coordinate : List ℕ → (i k : ℕ) → ℕ
+coordinate job i k = byte job i k
+
+-- the board, which is record 0
 abbrev pub width : List ℕ → ℕ
-width job = byte job 0 2
+width job = coordinate job 0 2
 
 abbrev pub height : List ℕ → ℕ
-height job = byte job 0 3
+height job = coordinate job 0 3
 
--- ---- what can be wrong with record i
+-- a keepout: its first cell is (left, top), and right and bottom are just past its last
+abbrev pub left : List ℕ → ℕ → ℕ
+left job i = coordinate job i 2
 
--- a board uses the bytes 0, 2 and 3, a keepout 4 and 5 too, and a net 1 besides
-unfoldable pub isUsed : (type k : ℕ) → Bool
-isUsed type k =
-    (eqb k 0 || (eqb k 2 || eqb k 3)) || ((not (eqb type 1) && (eqb k 4 || eqb k 5)) || (eqb type 3 && eqb k 1))
+abbrev pub top : List ℕ → ℕ → ℕ
+top job i = coordinate job i 3
 
--- 13: unknown type, or an unused byte not 0
-unfoldable pub isUnknown : List ℕ → ℕ → Bool
-isUnknown job i = not (isBoard job i || (isKeepout job i || isNet job i))
+abbrev pub right : List ℕ → ℕ → ℕ
+right job i = coordinate job i 4
 
-abbrev pub isStrayByte : List ℕ → (i k : ℕ) → Bool
-isStrayByte job i k = not (isUsed (byte job i 0) k) && not (eqb (byte job i k) 0)
+abbrev pub bottom : List ℕ → ℕ → ℕ
+bottom job i = coordinate job i 5
 
-unfoldable pub isUntidy : List ℕ → ℕ → Bool
-isUntidy job i = some recordBytes (isStrayByte job i)
+-- a net: its number, its start (sx, sy) and its goal (gx, gy)
+pub record Net : Type 0 where
+  pub number : ℕ
+  pub sx : ℕ
+  pub sy : ℕ
+  pub gx : ℕ
+  pub gy : ℕ
 
--- 12: record 0 is not a board, or a later one is
-unfoldable pub isMisplaced : List ℕ → ℕ → Bool
-isMisplaced job i = cond (eqb i 0) (not (isBoard job i)) (isBoard job i)
-
--- 18: a keepout after a net
-unfoldable pub isLate : List ℕ → ℕ → Bool
-isLate job i = isKeepout job i && some i (isNet job)
-
--- 14: a board side outside 1..63
-unfoldable pub isOversized : List ℕ → ℕ → Bool
-isOversized job i = not (sideFits (byte job i 2) && sideFits (byte job i 3))
-
--- 15: a keepout is empty or beyond the board: bytes 2, 3 are its first cell, 4, 5 the x, y just past the last
-unfoldable pub isBadKeepout : List ℕ → ℕ → Bool
-isBadKeepout job i =
-    not ((ltb (byte job i 2) (byte job i 4) && ltb (byte job i 3) (byte job i 5))
-    && (leb (byte job i 4) (width job) && leb (byte job i 5) (height job)))
-
--- the number of the last net before record i, 0 before the first
-unfoldable pub netBefore : List ℕ → ℕ → ℕ
-netBefore job zero = 0
-netBefore job (suc i) = cond (isNet job i) (byte job i 1) (netBefore job i)
-
--- 17: a net number not above the one before
-unfoldable pub isUnordered : List ℕ → ℕ → Bool
-isUnordered job i = leb (byte job i 1) (netBefore job i)
-
--- 16: a net end off the board: bytes 2, 3 are the start, 4, 5 the goal
-unfoldable pub isEndOff : List ℕ → ℕ → Bool
-isEndOff job i =
-    not ((leb (byte job i 2) (width job) && leb (byte job i 3) (height job))
-    && (leb (byte job i 4) (width job) && leb (byte job i 5) (height job)))
-
--- what is wrong, in the order in which it is checked, by document 01's number; 0 if nothing is
-unfoldable pub fault : List ℕ → ℕ → ℕ
-fault job i =
-    cond (isUnknown job i || isUntidy job i) 13
-    (cond (isMisplaced job i) 12
-    (cond (isLate job i) 18
-    (cond (isBoard job i && isOversized job i) 14
-    (cond (isKeepout job i && isBadKeepout job i) 15
-    (cond (isNet job i && isUnordered job i) 17
-    (cond (isNet job i && isEndOff job i) 16
-    0))))))
-
--- the first record that something is wrong with
-abbrev pub isFaulty : List ℕ → ℕ → Bool
-isFaulty job i = not (eqb (fault job i) 0)
-
-abbrev pub firstFault : List ℕ → ℕ
-firstFault job = firstWhere (records job) (isFaulty job)
-
--- what 10, 11 and the records' checks leave
-pub record Accepted (job : List ℕ) : Type 0 where
-  pub short : length job ≤ longestJob
-  pub whole : length job % recordBytes ≡ 0
-  pub begun : 1 ≤ records job
-  pub clean : (i : ℕ) → i < records job → fault job i ≡ 0
+abbrev pub netAt : List ℕ → ℕ → Net
+netAt job i = record {
+  number = byte job i 1;
+  sx = coordinate job i 2;
+  sy = coordinate job i 3;
+  gx = coordinate job i 4;
+  gy = coordinate job i 5;
+}
 
 -- ---- what an accepted job means
 
@@ -124,7 +78,7 @@ abbrev pub inside : (left top right bottom x y : ℕ) → Bool
 inside left top right bottom x y = (leb left x && ltb x right) && (leb top y && ltb y bottom)
 
 abbrev pub covers : List ℕ → (x y i : ℕ) → Bool
-covers job x y i = isKeepout job i && inside (byte job i 2) (byte job i 3) (byte job i 4) (byte job i 5) x y
+covers job x y i = isKeepout job i && inside (left job i) (top job i) (right job i) (bottom job i) x y
 
 unfoldable pub inKeepout : List ℕ → (x y : ℕ) → Bool
 inKeepout job x y = some (records job) (covers job x y)
@@ -134,8 +88,8 @@ unfoldable pub cellsUpTo : List ℕ → ℕ → List ℕ
 cellsUpTo job zero = []
 cellsUpTo job (suc n) = cellsUpTo job n ++ (cond (inKeepout job (n % width job) (n / width job)) 1 0 ∷ [])
 
-abbrev pub cellsOf : List ℕ → List ℕ
-cellsOf job = cellsUpTo job (width job * height job)
+abbrev pub boardCells : List ℕ → List ℕ
+boardCells job = cellsUpTo job (width job * height job)
 
 -- how many nets there are, and the record of the net with an index counted from 0
 abbrev pub nets : List ℕ → ℕ

@@ -1,3 +1,7 @@
 pub mod Job
-pub mod Paper
+pub mod Refusals
+pub mod Answers
+pub mod Inner
+pub mod Kinds
 pub mod Steps
+pub mod Cells

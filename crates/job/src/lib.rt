@@ -1,25 +1,25 @@
 // The job reader: a job's bytes are checked record by record, and its board and its nets are taken out.
 ghost use mathlib.Core.Path.{_≡_};
-ghost use Rattle.job.specs.Job.{records, Accepted};
-ghost use Rattle.job.specs.Paper.{handedRefusal, handedBoard, handedNet, BoardRead, foundNet, netRow};
-ghost use Rattle.job.specs.Steps.{told, readUpTo};
+ghost use Rattle.board.specs.Handed.{numberIn, placeIn};
+ghost use Rattle.records.specs.Records.{records};
+ghost use Rattle.job.specs.Refusals.{refusalRow};
+ghost use Rattle.job.specs.Answers.{handedBoard, handedNet, BoardRead, netRow};
+ghost use Rattle.job.specs.Inner.{Accepted};
+ghost use Rattle.job.specs.Steps.{progress};
 use cells::fill;
 use cells::paint_keepouts;
-use records::Record;
-use records::record_at;
+use inner::net_at;
 use steps::Progress;
 use steps::Step;
 use steps::check_job;
 
 mod cells;
-mod records;
+pub mod inner;
+mod kinds;
 mod steps;
 
 // The most bytes of a job.
 pub const LONGEST: usize = 8192;
-
-// The bytes of a record.
-pub const RECORD: usize = 8;
 
 // Why a job is refused: document 01's 10 to 18, from 12 on with the number of the record.
 pub enum JobRefusal {
@@ -37,7 +37,7 @@ pub enum JobRefusal {
 impl JobRefusal {
     // Document 01's number.
     pub fn number(self) -> u64
-        ensures { λ r. ⌜ r ≡ handedRefusal self .number ⌝ }
+        ensures { λ r. ⌜ r ≡ numberIn (refusalRow self) ⌝ }
     {
         match self {
             JobRefusal::Long => 10,
@@ -54,7 +54,7 @@ impl JobRefusal {
 
     // The number of the record, 0 where none is named.
     pub fn place(self) -> usize
-        ensures { λ r. ⌜ r ≡ handedRefusal self .place ⌝ }
+        ensures { λ r. ⌜ r ≡ placeIn (refusalRow self) ⌝ }
     {
         match self {
             JobRefusal::Long => 0,
@@ -107,7 +107,7 @@ pub fn read_board(job: &[u8], board: &mut [u8]) -> BoardAnswer
 // The board of an accepted job: free cells, then each keepout; nothing if the lent slice is short.
 fn write_board(job: &[u8], whole: Progress, board: &mut [u8]) -> BoardAnswer
     requires { ⌜ Accepted (now job) ⌝ }
-    requires { ⌜ told whole ≡ readUpTo (now job) (records (now job)) ⌝ }
+    requires { ⌜ whole ≡ progress (now job) (records (now job)) ⌝ }
     ensures { λ r. ⌜ BoardRead (now (job .entry)) (now (board .entry)) (handedBoard r) (now (board .exit)) ⌝ }
 {
     let width = whole.width;
@@ -130,39 +130,9 @@ fn write_board(job: &[u8], whole: Progress, board: &mut [u8]) -> BoardAnswer
 pub fn read_net(job: &[u8], index: usize) -> NetAnswer
     ensures { λ r. ⌜ handedNet r ≡ netRow (now (job .entry)) index ⌝ }
 {
-    match check_job(job) {
-        Step::Refused(why) => NetAnswer::Refused(why),
-        Step::Next(_) => find_net(job, index),
+    let checked = check_job(job);
+    if let Step::Refused(why) = checked {
+        return NetAnswer::Refused(why);
     }
-}
-
-// The net with that index in an accepted job.
-fn find_net(job: &[u8], index: usize) -> NetAnswer
-    requires { ⌜ Accepted (now job) ⌝ }
-    ensures { λ r. ⌜ handedNet r ≡ foundNet (now (job .entry)) index ⌝ }
-{
-    let mut before = 0;
-    for i in 0..job.len() / RECORD {
-        let Record::Net {
-            number,
-            sx,
-            sy,
-            gx,
-            gy,
-        } = record_at(job, i)
-        else {
-            continue;
-        };
-        if before == index {
-            return NetAnswer::Net {
-                number,
-                sx,
-                sy,
-                gx,
-                gy,
-            };
-        }
-        before += 1;
-    }
-    NetAnswer::NoNet
+    net_at(job, index)
 }

@@ -4,17 +4,17 @@ ghost use mathlib.Core.Bool.{_&&_};
 ghost use Prim.Native.Nat.{_≤_, _<_};
 ghost use lib.Dec.{leb, ltb};
 ghost use lib.ListN.{length};
-ghost use Rattle.board.specs.Paper.{answer, sideFits};
-ghost use Rattle.job.specs.Job.{records, longestJob};
-ghost use Rattle.job.specs.Paper.{jobRows};
-ghost use Rattle.job.specs.Steps.{told, readUpTo, handedStep, stepRow, boardStep, keepoutStep, netStep};
+ghost use Rattle.board.specs.Handed.{sideFits};
+ghost use Rattle.records.specs.Records.{records};
+ghost use Rattle.job.specs.Job.{longestJob};
+ghost use Rattle.job.specs.Steps.{progress, handedStep, boardStep, keepoutStep, netStep, recordStep, jobStep};
 use crate::JobRefusal;
 use crate::LONGEST;
-use crate::RECORD;
-use crate::records::Record;
-use crate::records::record_at;
+use crate::kinds::Record;
+use crate::kinds::record_at;
 use board::inner::is_vertex;
 use board::inner::side_fits;
+use records::RECORD;
 
 // What the records so far say: the board's sides, the last net's number and how many nets.
 pub struct Progress {
@@ -130,8 +130,8 @@ fn net_step(
 // Judges record i: 13, 12, 18, then 14, 15, or 17 before 16.
 fn judge(job: &[u8], i: usize, past: Progress) -> Step
     requires { ⌜ (length (now job) ≤ longestJob) × (i < records (now job)) ⌝ }
-    requires { ⌜ told past ≡ readUpTo (now job) i ⌝ }
-    ensures { λ r. ⌜ handedStep r ≡ stepRow (now (job .entry)) i ⌝ }
+    requires { ⌜ past ≡ progress (now job) i ⌝ }
+    ensures { λ r. ⌜ handedStep r ≡ recordStep (now (job .entry)) i ⌝ }
 {
     match record_at(job, i) {
         Record::Stray => Step::Refused(JobRefusal::Stray(i)),
@@ -154,7 +154,7 @@ fn judge(job: &[u8], i: usize, past: Progress) -> Step
 
 // Checks a whole job: 10, 11, then the records in order; a job with no record has no board.
 pub fn check_job(job: &[u8]) -> Step
-    ensures { λ r. ⌜ handedStep r ≡ jobRows (now (job .entry)) (answer (readUpTo (now (job .entry)) (records (now (job .entry))))) ⌝ }
+    ensures { λ r. ⌜ handedStep r ≡ jobStep (now (job .entry)) ⌝ }
 {
     if LONGEST < job.len() {
         return Step::Refused(JobRefusal::Long);

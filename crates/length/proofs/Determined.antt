@@ -1,45 +1,49 @@
 -- Each contract of this crate admits one result: two answers that hand the same back are equal. Assumes nothing.
-use mathlib.Core.Path.{_≡_, refl, sym, ap, _∙_}
+use mathlib.Core.Path.{_≡_, refl}
 use mathlib.Core.Bool.{cond}
 use lib.Dec.{eqb}
-use lib.ListN.{getD}
-use lib.Ieee.{nan}
-use Rattle.board.specs.Paper.{Handed, value}
+use Rattle.laws.proofs.Determined.{undone}
+use Rattle.board.specs.Handed.{Handed}
+use Rattle.board.specs.declared.Refusal.the-variants.{Side, Count, Byte, First, Second}
+use Rattle.board.proofs.Determined.{refusalOf}
 use Rattle.length.specs.declared.Measured.{Measured}
 use Rattle.length.specs.declared.Measured.the-variants as measured
 use Rattle.length.specs.declared.Aimed.{Aimed}
 use Rattle.length.specs.declared.Aimed.the-variants as aimed
-use Rattle.length.specs.Paper.{handedLength, handedDirection}
+use Rattle.length.specs.Answers.{Long, Toward, handedLength, handedDirection}
 
 -- the answer that hands this back
-lengthFrom : Handed → Measured
-lengthFrom h =
-    cond (eqb (h .number) 4) measured.First
-    (cond (eqb (h .number) 5) measured.Second (measured.Of (record { units = value h 0 })))
+lengthFrom : Handed Long → Measured
+lengthFrom h = cond (eqb (h .number) 0) (measured.Of (record { units = h .values .units })) (measured.Refused (refusalOf (h .number) (h .place)))
 
 length-back : (r : Measured) → lengthFrom (handedLength r) ≡ r
 unfolding lengthFrom
 length-back (measured.Of l) = refl
-length-back measured.First = refl
-length-back measured.Second = refl
+length-back (measured.Refused Side) = refl
+length-back (measured.Refused Count) = refl
+length-back (measured.Refused (Byte at)) = refl
+length-back (measured.Refused First) = refl
+length-back (measured.Refused Second) = refl
 
 -- of `Length::of` and `Length::between`
-pub length-determined : (r s : Measured) (h : Handed) → handedLength r ≡ h → handedLength s ≡ h → r ≡ s
-length-determined r s h p q = sym (length-back r) ∙ ap lengthFrom (p ∙ sym q) ∙ length-back s
+pub length-determined : {r s : Measured} {h : Handed Long} → handedLength r ≡ h → handedLength s ≡ h → r ≡ s
+length-determined = undone handedLength lengthFrom length-back
 
-directionFrom : Handed → Aimed
+directionFrom : Handed Toward → Aimed
 directionFrom h =
-    cond (eqb (h .number) 4) aimed.First
-    (cond (eqb (h .number) 5) aimed.Second
-    (cond (eqb (h .number) 9) aimed.Equal (aimed.Of (record { x = getD (h .floats) 0 nan; y = getD (h .floats) 1 nan }))))
+    cond (eqb (h .number) 0) (aimed.Of (record { x = h .values .x; y = h .values .y }))
+    (cond (eqb (h .number) 9) aimed.Equal (aimed.Refused (refusalOf (h .number) (h .place))))
 
 direction-back : (r : Aimed) → directionFrom (handedDirection r) ≡ r
 unfolding directionFrom
 direction-back (aimed.Of d) = refl
-direction-back aimed.First = refl
-direction-back aimed.Second = refl
+direction-back (aimed.Refused Side) = refl
+direction-back (aimed.Refused Count) = refl
+direction-back (aimed.Refused (Byte at)) = refl
+direction-back (aimed.Refused First) = refl
+direction-back (aimed.Refused Second) = refl
 direction-back aimed.Equal = refl
 
 -- of `Direction::of` and `Direction::between`
-pub direction-determined : (r s : Aimed) (h : Handed) → handedDirection r ≡ h → handedDirection s ≡ h → r ≡ s
-direction-determined r s h p q = sym (direction-back r) ∙ ap directionFrom (p ∙ sym q) ∙ direction-back s
+pub direction-determined : {r s : Aimed} {h : Handed Toward} → handedDirection r ≡ h → handedDirection s ≡ h → r ≡ s
+direction-determined = undone handedDirection directionFrom direction-back

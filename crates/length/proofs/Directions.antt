@@ -1,45 +1,78 @@
--- What document 01 says of a leg's direction. Assumes nothing.
-use mathlib.Core.Path.{_≡_}
-use Prim.Native.Nat.{ℕ, _+_, _*_, _<_}
-use native.Mathlib.Nat.{mul-pos}
+-- What document 01 says of a leg's direction, shown of what the calls hand back with number 0. Assumes nothing.
+use mathlib.Core.Path.{_≡_, refl, ap, _∙_, subst}
+use mathlib.Core.Bool.{Bool, true, false, _&&_}
+use Prim.Native.Nat.{ℕ, zero, suc, _+_, _*_, _<_}
+use native.Mathlib.Nat.{zero-lt-suc}
 use native.Mathlib.Omega.{arith}
 use lib.IntN.{ℤ, pos, natAbs}
 use lib.Signed.{ltZ}
-use lib.Dec.{T, lit<}
-use lib.Ieee.{fin, le}
-use mathlib.Core.Bool.{false}
-use Rattle.length.specs.Units.{unitsPerCell, unitsOf, square}
-use Rattle.length.specs.Legs.{sizesOf}
-use Rattle.length.specs.Floats.{magnitude}
-use Rattle.length.specs.Paper.{directionOf}
-use Rattle.length.proofs.Units.{units-axis, units-width, units-height, units-positive}
+use lib.Dec.{eqb}
+use lib.Ieee.{fin}
+use Rattle.board.specs.Handed.{row, answer, unless}
+use Rattle.length.specs.Units.{square, units}
+use Rattle.length.specs.Legs.{step, differenceRows, vertexRows}
+use Rattle.length.specs.Floats.{quotient}
+use Rattle.length.specs.Answers.{noDirection, directionOf, aimRow, directionRow, directionBetweenRow}
+use Rattle.length.specs.Directions.{Directed}
+use Rattle.length.proofs.Units.{units-level, units-upright, units-width, units-height, units-positive, different}
 use Rattle.length.proofs.Floats.{quotient-zero, quotient-axis, quotient-most}
+use Rattle.length.proofs.Answers.{given}
+use Rattle.length.proofs.Legs.{no-zero, differences-given, vertices-given}
 
--- a length along an axis is the difference itself
-level : (n : ℕ) → unitsOf (n * n + 0 * 0) ≡ n * unitsPerCell
-level n = let e : n * n + 0 * 0 ≡ n * n = omega arith in rw e (units-axis n)
+-- a size whose square is not 0
+some : (n : ℕ) → 0 < n * n + 0 * 0 → 0 < n
+some zero h = absurd (no h)
+  where
+    no : 0 < 0 * 0 + 0 * 0 → ⊥
+    no h = omega arith
+some (suc n) h = zero-lt-suc n
 
-upright : (n : ℕ) → unitsOf (0 * 0 + n * n) ≡ n * unitsPerCell
-upright n = let e : 0 * 0 + n * n ≡ n * n = omega arith in rw e (units-axis n)
-
--- a difference of 0 gives +0
-pub zero-x : (dy : ℤ) → 0 < natAbs dy → directionOf (sizesOf (pos 0) dy) .x ≡ fin false 0 (pos 0)
-zero-x dy p = rw (upright (natAbs dy)) (quotient-zero (natAbs dy * unitsPerCell) (mul-pos p (lit< tt)))
-
-pub zero-y : (dx : ℤ) → 0 < natAbs dx → directionOf (sizesOf dx (pos 0)) .y ≡ fin false 0 (pos 0)
-zero-y dx p = rw (level (natAbs dx)) (quotient-zero (natAbs dx * unitsPerCell) (mul-pos p (lit< tt)))
-
--- on an axis the other is exactly 1 or −1
-pub axis-x : (dx : ℤ) → 0 < natAbs dx → directionOf (sizesOf dx (pos 0)) .x ≡ fin (ltZ dx (pos 0)) 1 (pos 0)
-axis-x dx p = rw (level (natAbs dx)) (quotient-axis (ltZ dx (pos 0)) (natAbs dx) p)
-
-pub axis-y : (dy : ℤ) → 0 < natAbs dy → directionOf (sizesOf (pos 0) dy) .y ≡ fin (ltZ dy (pos 0)) 1 (pos 0)
-axis-y dy p = rw (upright (natAbs dy)) (quotient-axis (ltZ dy (pos 0)) (natAbs dy) p)
-
--- neither exceeds 1 in size
 module _ (dx dy : ℤ) (p : 0 < square dx dy) where
-  pub most-x : T (le (magnitude (directionOf (sizesOf dx dy) .x)) (fin false 1 (pos 0)))
-  most-x = quotient-most (ltZ dx (pos 0)) (natAbs dx) (unitsOf (square dx dy)) (units-positive (square dx dy) p) (units-width (natAbs dx) (natAbs dy))
+  -- along an axis the length is the difference itself
+  level : dy ≡ pos 0 → quotient dx (units dx dy) ≡ fin (ltZ dx (pos 0)) 1 (pos 0)
+  level e =
+      let q : 0 < square dx (pos 0) = subst (λ (z : ℤ). 0 < square dx z) e p in
+      rw (e, units-level dx) (quotient-axis dx (some (natAbs dx) q))
 
-  pub most-y : T (le (magnitude (directionOf (sizesOf dx dy) .y)) (fin false 1 (pos 0)))
-  most-y = quotient-most (ltZ dy (pos 0)) (natAbs dy) (unitsOf (square dx dy)) (units-positive (square dx dy) p) (units-height (natAbs dx) (natAbs dy))
+  upright : dx ≡ pos 0 → quotient dy (units dx dy) ≡ fin (ltZ dy (pos 0)) 1 (pos 0)
+  upright e =
+      let q : 0 < square dy (pos 0) = omega (arith, subst (λ (z : ℤ). 0 < square z dy) e p) in
+      rw (e, units-upright dy) (quotient-axis dy (some (natAbs dy) q))
+
+directed : (dx dy : ℤ) → 0 < square dx dy → Directed dx dy (directionOf dx dy)
+directed dx dy p =
+    let u = units dx dy in
+    let U : 0 < u = units-positive (square dx dy) p in
+    record {
+      zero-x = λ e. ap (λ (z : ℤ). quotient z u) e ∙ quotient-zero u U;
+      zero-y = λ e. ap (λ (z : ℤ). quotient z u) e ∙ quotient-zero u U;
+      axis-x = level dx dy p;
+      axis-y = upright dx dy p;
+      most-x = quotient-most dx u U (units-width (natAbs dx) (natAbs dy));
+      most-y = quotient-most dy u U (units-height (natAbs dx) (natAbs dy));
+    }
+
+-- row 9 has passed
+aimed : (dx dy : ℤ) → aimRow dx dy .number ≡ 0 → Directed dx dy (aimRow dx dy .values)
+unfolding aimRow
+aimed dx dy = go (eqb (natAbs dx) 0 && eqb (natAbs dy) 0) refl
+  where
+    go : (b : Bool) → (eqb (natAbs dx) 0 && eqb (natAbs dy) 0) ≡ b → unless noDirection (row b 9 0) (answer (directionOf dx dy)) .number ≡ 0
+        → Directed dx dy (unless noDirection (row b 9 0) (answer (directionOf dx dy)) .values)
+    go true f e = absurd (no-zero 8 e)
+    go false f e = directed dx dy (different (natAbs dx) (natAbs dy) f)
+
+-- of `Direction::of`
+pub directions : (dx dy : ℤ) → directionRow dx dy .number ≡ 0 → Directed dx dy (directionRow dx dy .values)
+unfolding directionRow
+directions dx dy e =
+    let v = differences-given dx dy (given noDirection (aimRow dx dy) (differenceRows dx dy) e) in
+    rw v (aimed dx dy (rw v at e))
+
+-- of `Direction::between`
+pub directions-between : (ax ay bx by : ℕ) → directionBetweenRow ax ay bx by .number ≡ 0
+    → Directed (step ax bx) (step ay by) (directionBetweenRow ax ay bx by .values)
+unfolding directionBetweenRow
+directions-between ax ay bx by e =
+    let v = vertices-given ax ay bx by (given noDirection (aimRow (step ax bx) (step ay by)) (vertexRows ax ay bx by) e) in
+    rw v (aimed (step ax bx) (step ay by) (rw v at e))

@@ -4,7 +4,8 @@ use mathlib.Core.Bool.{Bool, true, false, cond, true≢false}
 use Prim.Native.Nat.{ℕ, zero, suc, _+_, _*_, _^_, _≤_, _<_}
 use native.Mathlib.Nat.{mul-comm, mul-assoc, mul-left-comm, mul-pos, le-trans, le-of-eq, lt-of-lt-of-le, mul-one, one-mul, zero-lt-suc, mul-lt-mul-of-pos-right, zero-mul}
 use native.Mathlib.Omega.{arith}
-use lib.IntN.{pos}
+use lib.IntN.{ℤ, pos, natAbs}
+use lib.Signed.{ltZ}
 use lib.Dec.{T, lit<, lit≤, eqb·suc-zero, ltb, le→leb}
 use lib.Pow.{pow-pos}
 use lib.Ieee.{Float, nan, inf, fin, Format, binary64, up, down, prec, emax, low, round, div, neg, ofInt, le, units, odd, unlike, inFloat}
@@ -13,7 +14,8 @@ use lib.Ieee.Exact.{HasValue, round-exact}
 use lib.Ieee.Scale.{round-same}
 use lib.Ieee.Order.{round-mono}
 use Rattle.length.specs.Units.{unitsPerCell}
-use Rattle.length.specs.Floats.{cellsOf, quotient, magnitude}
+use Rattle.length.specs.Floats.{inCells, quotient}
+use Rattle.length.specs.Directions.{magnitude}
 
 -- ---- a whole number below 2^53 is a value of the format
 
@@ -60,8 +62,8 @@ divided a b A B C = div-values (round binary64 false a 1) (round binary64 false 
 
 -- ---- a length in cells: nothing is lost in units / 2^20
 
-pub cells-exact : (n : ℕ) → n < 2 ^ 53 → HasValue (cellsOf n) false n unitsPerCell
-unfolding cellsOf
+pub cells-exact : (n : ℕ) → n < 2 ^ 53 → HasValue (inCells n) false n unitsPerCell
+unfolding inCells
 cells-exact n h =
     rw (divided n unitsPerCell h (lit< tt) (lit< tt))
     (round-exact binary64 false n unitsPerCell n 1054 (lit< tt) h (lt-of-lt-of-le (mul-lt-mul-of-pos-right h (pow-pos 1054)) (lit≤ tt)) (sym (mul-assoc n (2 ^ 1054) (2 ^ 20))))
@@ -93,15 +95,16 @@ one true = refl
 one false = refl
 
 -- a difference of 0 gives +0
-pub quotient-zero : (u : ℕ) → 0 < u → quotient false 0 u ≡ fin false 0 (pos 0)
+pub quotient-zero : (u : ℕ) → 0 < u → quotient (pos 0) u ≡ fin false 0 (pos 0)
 unfolding quotient round
 quotient-zero u U = round-same binary64 false 0 u 0 1 U (lit< tt) (sym (zero-mul u))
 
 -- on an axis, where the length is the difference itself, it is exactly 1 or −1
-pub quotient-axis : (minus : Bool) (n : ℕ) → 0 < n → quotient minus n (n * unitsPerCell) ≡ fin minus 1 (pos 0)
+pub quotient-axis : (d : ℤ) → 0 < natAbs d → quotient d (natAbs d * unitsPerCell) ≡ fin (ltZ d (pos 0)) 1 (pos 0)
 unfolding quotient round
-quotient-axis minus n p =
-    round-same binary64 minus (n * unitsPerCell) (n * unitsPerCell) 1 1 (mul-pos p (lit< tt)) (lit< tt) (mul-comm (n * unitsPerCell) 1) ∙ one minus
+quotient-axis d p =
+    round-same binary64 (ltZ d (pos 0)) (natAbs d * unitsPerCell) (natAbs d * unitsPerCell) 1 1 (mul-pos p (lit< tt)) (lit< tt) (mul-comm (natAbs d * unitsPerCell) 1)
+    ∙ one (ltZ d (pos 0))
 
 size-neg : (x : Float) → magnitude (neg x) ≡ magnitude x
 unfolding neg
@@ -131,9 +134,10 @@ size-round false a b = size-plain binary64 a b
 size-round true a b = ap magnitude (sym (round-neg binary64 a b)) ∙ size-neg (round binary64 false a b) ∙ size-plain binary64 a b
 
 -- no difference beyond the length gives more than 1 in size
-pub quotient-most : (minus : Bool) (n u : ℕ) → 0 < u → n * unitsPerCell ≤ u → T (le (magnitude (quotient minus n u)) (fin false 1 (pos 0)))
+pub quotient-most : (d : ℤ) (u : ℕ) → 0 < u → natAbs d * unitsPerCell ≤ u → T (le (magnitude (quotient d u)) (fin false 1 (pos 0)))
 unfolding quotient
-quotient-most minus n u U h =
-    rw (size-round minus (n * unitsPerCell) u)
-    (subst (λ (z : Float). T (le (round binary64 false (n * unitsPerCell) u) z)) (one false)
-    (round-mono binary64 (n * unitsPerCell) u 1 1 U (lit< tt) (le-trans (le-of-eq (mul-one (n * unitsPerCell))) (le-trans h (le-of-eq (sym (one-mul u)))))))
+quotient-most d u U h =
+    let a = natAbs d * unitsPerCell in
+    rw (size-round (ltZ d (pos 0)) a u)
+    (subst (λ (z : Float). T (le (round binary64 false a u) z)) (one false)
+    (round-mono binary64 a u 1 1 U (lit< tt) (le-trans (le-of-eq (mul-one a)) (le-trans h (le-of-eq (sym (one-mul u)))))))

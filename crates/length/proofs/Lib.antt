@@ -1,8 +1,8 @@
 pub mod Root
-pub mod Digits
 pub mod Units
-pub mod Steps
-pub mod Floats
+pub mod Signed
 pub mod Legs
+pub mod Floats
+pub mod Answers
 pub mod Directions
 pub mod Determined

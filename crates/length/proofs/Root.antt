@@ -74,10 +74,10 @@ root-bounds n = in-bounds n n (enough n)
 pub root-largest : (n : ℕ) → Largest n (root n)
 root-largest n = bounds-largest (root-bounds n)
 
--- ---- a finer measure: with m marks to a unit, a root of u units has at least m × u marks, and fewer than m × (u + 1)
+-- ---- a finer measure: with m parts to a unit, a root of u units has at least m × u parts, and fewer than m × (u + 1)
 
 product-square : (m a : ℕ) → m * a * (m * a) ≡ m * m * (a * a)
-product-square m a = simp (mul-comm, mul-assoc, mul-left-comm)
+product-square m a = simp (mul-assoc, mul-left-comm)
 
 pub finer-low : (m n : ℕ) → m * root n ≤ root (m * m * n)
 finer-low m n =

@@ -5,9 +5,10 @@ use Prim.Native.Nat.{ℕ, zero, suc, _+_, _*_, _^_, _≤_, _<_}
 use native.Mathlib.Nat.{mul-assoc, mul-comm, mul-left-comm, le-of-eq, zero-lt-suc}
 use native.Mathlib.Omega.{arith}
 use lib.Dec.{eqb}
-use Rattle.board.specs.Limits.{side}
+use lib.IntN.{ℤ, pos, natAbs}
+use Rattle.board.specs.Limits.{largestSide}
 use Rattle.length.specs.Root.{Largest, Bounds}
-use Rattle.length.specs.Units.{unitsPerCell, unitsOf}
+use Rattle.length.specs.Units.{unitsPerCell, unitsOf, square, units}
 use Rattle.length.proofs.Root.{next, below, bounds-one, root-bounds, root-largest}
 
 pub units-largest : (s : ℕ) → Largest (s * 2 ^ 40) (unitsOf s)
@@ -26,9 +27,15 @@ cell-square : (n : ℕ) → n * unitsPerCell * (n * unitsPerCell) ≡ n * n * 2 
 cell-square n = simp (mul-assoc, mul-comm, mul-left-comm) (omega arith)
 
 -- along an axis nothing is rounded
-pub units-axis : (n : ℕ) → unitsOf (n * n) ≡ n * unitsPerCell
-units-axis n =
-    sym (units-one (n * n) (n * unitsPerCell) (record { low = le-of-eq (cell-square n); high = omega (arith, cell-square n, next (n * unitsPerCell)) }))
+units-axis : (s n : ℕ) → s ≡ n * n → unitsOf s ≡ n * unitsPerCell
+units-axis s n e =
+    rw e (sym (units-one (n * n) (n * unitsPerCell) (record { low = le-of-eq (cell-square n); high = omega (arith, cell-square n, next (n * unitsPerCell)) })))
+
+pub units-level : (dx : ℤ) → units dx (pos 0) ≡ natAbs dx * unitsPerCell
+units-level dx = units-axis (square dx (pos 0)) (natAbs dx) (omega arith)
+
+pub units-upright : (dy : ℤ) → units (pos 0) dy ≡ natAbs dy * unitsPerCell
+units-upright dy = units-axis (square (pos 0) dy) (natAbs dy) (omega arith)
 
 -- a leg is at least as long as it is wide, and as it is high
 pub units-width : (x y : ℕ) → x * unitsPerCell ≤ unitsOf (x * x + y * y)
@@ -59,12 +66,12 @@ units-positive s p = go (unitsOf s) (units-bounds s)
     go zero b = absurd (no (b .high))
     go (suc u) b = zero-lt-suc u
 
--- a leg whose differences are not both 0 has different ends
+-- a leg whose differences are not both 0 has a square
 pub different : (x y : ℕ) → (eqb x 0 && eqb y 0) ≡ false → 0 < x * x + y * y
 different zero zero e = absurd (true≢false e)
 different zero (suc y) e = omega arith
 different (suc x) y e = omega arith
 
 -- every length on the largest board is a whole number that an f64 holds
-pub units-fit : (x y : ℕ) → x ≤ side → y ≤ side → unitsOf (x * x + y * y) < 2 ^ 53
+pub units-fit : (x y : ℕ) → x ≤ largestSide → y ≤ largestSide → unitsOf (x * x + y * y) < 2 ^ 53
 units-fit x y p q = omega (arith, units-most x y)

@@ -1,20 +1,14 @@
 -- Lengths and directions as f64 numbers, in the terms of lib.Ieee.
 use Prim.Native.Nat.{ℕ, _*_}
-use mathlib.Core.Bool.{Bool, false}
-use lib.IntN.{pos}
-use lib.Ieee.{Float, nan, inf, fin, binary64, round, div, ofInt}
+use lib.IntN.{ℤ, pos, natAbs}
+use lib.Signed.{ltZ}
+use lib.Ieee.{Float, binary64, round, div, ofInt}
 use Rattle.length.specs.Units.{unitsPerCell}
 
 -- a length in cells: the units as an f64, divided by the units of one cell
-unfoldable pub cellsOf : ℕ → Float
-cellsOf n = div binary64 (ofInt binary64 (pos n)) (ofInt binary64 (pos unitsPerCell))
+unfoldable pub inCells : ℕ → Float
+inCells n = div binary64 (ofInt binary64 (pos n)) (ofInt binary64 (pos unitsPerCell))
 
--- a difference of n cells, times 2^20, over u units, rounded once, with its sign
-unfoldable pub quotient : (minus : Bool) → (n u : ℕ) → Float
-quotient minus n u = round binary64 minus (n * unitsPerCell) u
-
--- a float without its sign
-abbrev pub magnitude : Float → Float
-magnitude nan = nan
-magnitude (inf s) = inf false
-magnitude (fin s m e) = fin false m e
+-- d × 2^20 / u, with the sign of d, rounded once
+unfoldable pub quotient : (d : ℤ) → (u : ℕ) → Float
+quotient d u = round binary64 (ltZ d (pos 0)) (natAbs d * unitsPerCell) u

@@ -2,4 +2,5 @@ pub mod Root
 pub mod Units
 pub mod Legs
 pub mod Floats
-pub mod Paper
+pub mod Answers
+pub mod Directions

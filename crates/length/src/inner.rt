@@ -1,10 +1,10 @@
 // Calls for the crates above: each says what it requires.
 ghost use mathlib.Core.Path.{_≡_};
 ghost use Prim.Native.Nat.{_+_, _*_, _^_, _≤_, _<_};
-ghost use Rattle.board.specs.Limits.{side};
+ghost use Rattle.board.specs.Limits.{largestSide};
 ghost use Rattle.length.specs.Root.{Bounds};
 ghost use Rattle.length.specs.Units.{unitsOf};
-ghost use Rattle.length.specs.Floats.{cellsOf};
+ghost use Rattle.length.specs.Floats.{inCells};
 use crate::Length;
 
 // The whole square root: two binary digits a turn, with a remainder and no product.
@@ -34,24 +34,16 @@ pub fn root(n: u64) -> u64
 
 // The units of a leg, by its dx² + dy².
 pub fn units_of_square(s: u64) -> u64
-    requires { ⌜ s ≤ 2 * (side * side) ⌝ }
+    requires { ⌜ s ≤ 2 * (largestSide * largestSide) ⌝ }
     ensures { λ r. ⌜ r ≡ unitsOf s ⌝ }
 {
     root(s * (Length::UNITS_PER_CELL * Length::UNITS_PER_CELL))
 }
 
-// The units of a leg that is x columns wide and y rows high.
-pub fn units_of(x: u64, y: u64) -> u64
-    requires { ⌜ (x ≤ side) × (y ≤ side) ⌝ }
-    ensures { λ r. ⌜ r ≡ unitsOf (x * x + y * y) ⌝ }
-{
-    units_of_square(x * x + y * y)
-}
-
 // Units in cells, where the cast loses nothing.
 pub fn exact_cells(units: u64) -> f64
     requires { ⌜ units < 2 ^ 53 ⌝ }
-    ensures { λ r. ⌜ r ≡ cellsOf units ⌝ }
+    ensures { λ r. ⌜ r ≡ inCells units ⌝ }
 {
     units as f64 / Length::UNITS_PER_CELL as f64
 }

@@ -2,14 +2,16 @@
 ghost use mathlib.Core.Path.{_≡_};
 ghost use Prim.Native.Nat.{_^_, _≤_, _<_};
 ghost use lib.IntN.{natAbs};
-ghost use Rattle.board.specs.Limits.{side};
-ghost use Rattle.length.specs.Units.{unitsPerCell};
-ghost use Rattle.length.specs.Legs.{legByDifferences, legByVertices, step, Short};
-ghost use Rattle.length.specs.Floats.{cellsOf, quotient};
-ghost use Rattle.length.specs.Paper.{handedLength, handedDirection, lengthRow, directionRow};
+ghost use Rattle.board.specs.Limits.{largestSide};
+ghost use Rattle.board.specs.Handed.{verdict};
+ghost use Rattle.length.specs.Legs.{step, differenceRows, vertexRows};
+ghost use Rattle.length.specs.Units.{unitsPerCell, units};
+ghost use Rattle.length.specs.Floats.{inCells, quotient};
+ghost use Rattle.length.specs.Answers.{handedLength, handedDirection, lengthRow, lengthBetweenRow, aimRow, directionRow, directionBetweenRow};
+use board::Checked;
+use board::Refusal;
 use board::SIDE;
-use board::inner::is_vertex;
-use inner::units_of;
+use inner::units_of_square;
 
 pub mod inner;
 
@@ -24,34 +26,17 @@ pub struct Direction {
     pub y: f64,
 }
 
-// A leg's length, or document 01's 4 (first vertex, or dx) or 5 (second vertex, or dy).
+// A leg's length, or the row that refuses it: 4 (first vertex, or dx) or 5 (second vertex, or dy).
 pub enum Measured {
     Of(Length),
-    First,
-    Second,
+    Refused(Refusal),
 }
 
-// A leg's direction, or document 01's 4, 5 or 9 (equal ends).
+// A leg's direction, or the row that refuses it: 4, 5, or 9 for equal ends.
 pub enum Aimed {
     Of(Direction),
-    First,
-    Second,
+    Refused(Refusal),
     Equal,
-}
-
-// A leg's differences as signs and sizes: left and up are negative.
-pub struct Sizes {
-    pub left: bool,
-    pub x: u64,
-    pub up: bool,
-    pub y: u64,
-}
-
-// A leg that a call was given, or document 01's 4 or 5.
-pub enum Leg {
-    Of(Sizes),
-    First,
-    Second,
 }
 
 // The size of a difference, for its whole range.
@@ -66,68 +51,49 @@ fn size_of(d: i32) -> u64
     }
 }
 
-// A leg by its differences.
-fn by_differences(dx: i32, dy: i32) -> Leg
-    ensures { λ r. ⌜ r ≡ legByDifferences dx dy ⌝ }
+// The difference from one coordinate to another, both on the largest board.
+fn difference(a: usize, b: usize) -> i32
+    requires { ⌜ (a ≤ largestSide) × (b ≤ largestSide) ⌝ }
+    ensures { λ r. ⌜ r ≡ step a b ⌝ }
+    ensures small { λ r. ⌜ natAbs r ≤ largestSide ⌝ }
+{
+    b as i32 - a as i32
+}
+
+// Refusals 4 and 5 of a leg by its differences.
+fn check_differences(dx: i32, dy: i32) -> Checked
+    ensures { λ r. ⌜ verdict r ≡ differenceRows dx dy ⌝ }
+{
+    if (SIDE as u64) < size_of(dx) {
+        return Checked::Refused(Refusal::First);
+    }
+    if (SIDE as u64) < size_of(dy) {
+        return Checked::Refused(Refusal::Second);
+    }
+    Checked::Accepted
+}
+
+// Refusals 4 and 5 of a leg by its vertices.
+fn check_vertices(ax: usize, ay: usize, bx: usize, by: usize) -> Checked
+    ensures { λ r. ⌜ verdict r ≡ vertexRows ax ay bx by ⌝ }
+{
+    if (SIDE < ax) | (SIDE < ay) {
+        return Checked::Refused(Refusal::First);
+    }
+    if (SIDE < bx) | (SIDE < by) {
+        return Checked::Refused(Refusal::Second);
+    }
+    Checked::Accepted
+}
+
+// The units of a leg by differences that passed the checks.
+fn units_of(dx: i32, dy: i32) -> u64
+    requires { ⌜ (natAbs dx ≤ largestSide) × (natAbs dy ≤ largestSide) ⌝ }
+    ensures { λ r. ⌜ r ≡ units dx dy ⌝ }
 {
     let x = size_of(dx);
-    if (SIDE as u64) < x {
-        return Leg::First;
-    }
     let y = size_of(dy);
-    if (SIDE as u64) < y {
-        return Leg::Second;
-    }
-    Leg::Of(Sizes {
-        left: dx < 0,
-        x,
-        up: dy < 0,
-        y,
-    })
-}
-
-// How far apart two coordinates are.
-fn apart(a: usize, b: usize) -> u64
-    ensures { λ r. ⌜ r ≡ natAbs (step a b) ⌝ }
-{
-    if a < b {
-        (b - a) as u64
-    } else {
-        (a - b) as u64
-    }
-}
-
-// A leg by its vertices.
-fn by_vertices(ax: usize, ay: usize, bx: usize, by: usize) -> Leg
-    ensures { λ r. ⌜ r ≡ legByVertices ax ay bx by ⌝ }
-{
-    if !is_vertex(SIDE, SIDE, ax, ay) {
-        return Leg::First;
-    }
-    if !is_vertex(SIDE, SIDE, bx, by) {
-        return Leg::Second;
-    }
-    Leg::Of(Sizes {
-        left: bx < ax,
-        x: apart(ax, bx),
-        up: by < ay,
-        y: apart(ay, by),
-    })
-}
-
-// The length of a leg.
-fn length_of(leg: Leg) -> Measured
-    requires { ⌜ Short leg ⌝ }
-    ensures { λ r. ⌜ handedLength r ≡ lengthRow leg ⌝ }
-{
-    match leg {
-        Leg::Of(l) => {
-            let units = units_of(l.x, l.y);
-            Measured::Of(Length { units })
-        }
-        Leg::First => Measured::First,
-        Leg::Second => Measured::Second,
-    }
+    units_of_square(x * x + y * y)
 }
 
 impl Length {
@@ -143,67 +109,79 @@ impl Length {
 
     // The length of a leg by its differences.
     pub fn of(dx: i32, dy: i32) -> Measured
-        ensures { λ r. ⌜ handedLength r ≡ lengthRow (legByDifferences dx dy) ⌝ }
+        ensures { λ r. ⌜ handedLength r ≡ lengthRow dx dy ⌝ }
     {
-        length_of(by_differences(dx, dy))
+        match check_differences(dx, dy) {
+            Checked::Accepted => {
+                let units = units_of(dx, dy);
+                Measured::Of(Length { units })
+            }
+            Checked::Refused(why) => Measured::Refused(why),
+        }
     }
 
     // The length of a leg by its vertices.
     pub fn between(ax: usize, ay: usize, bx: usize, by: usize) -> Measured
-        ensures { λ r. ⌜ handedLength r ≡ lengthRow (legByVertices ax ay bx by) ⌝ }
+        ensures { λ r. ⌜ handedLength r ≡ lengthBetweenRow ax ay bx by ⌝ }
     {
-        length_of(by_vertices(ax, ay, bx, by))
+        match check_vertices(ax, ay, bx, by) {
+            Checked::Accepted => {
+                let units = units_of(difference(ax, bx), difference(ay, by));
+                Measured::Of(Length { units })
+            }
+            Checked::Refused(why) => Measured::Refused(why),
+        }
     }
 
     // The length in cells: with nothing lost below 2^53 units, else from the nearest f64.
     pub fn cells(self) -> f64
-        ensures { λ r. ⌜ r ≡ cellsOf (self .units) ⌝ }
+        ensures { λ r. ⌜ r ≡ inCells (self .units) ⌝ }
     {
         std::num::nearest_u64_to_f64(self.units) / Self::UNITS_PER_CELL as f64
     }
 }
 
-// n cells over u units, rounded once, with a sign.
-fn ratio(minus: bool, n: u64, u: u64) -> f64
-    requires { ⌜ (n ≤ side) × (0 < u) × (u < 2 ^ 53) ⌝ }
-    ensures { λ r. ⌜ r ≡ quotient minus n u ⌝ }
+// A difference of d cells over u units: one rounded division, and then the sign.
+fn ratio(d: i32, u: u64) -> f64
+    requires { ⌜ (natAbs d ≤ largestSide) × (0 < u) × (u < 2 ^ 53) ⌝ }
+    ensures { λ r. ⌜ r ≡ quotient d u ⌝ }
 {
-    let q = (n * Length::UNITS_PER_CELL) as f64 / u as f64;
-    if minus { -q } else { q }
+    let q = (size_of(d) * Length::UNITS_PER_CELL) as f64 / u as f64;
+    if d < 0 { -q } else { q }
 }
 
-// The direction of a leg.
-fn direction_of(leg: Leg) -> Aimed
-    requires { ⌜ Short leg ⌝ }
-    ensures { λ r. ⌜ handedDirection r ≡ directionRow leg ⌝ }
+// The direction of a leg by differences that passed the checks, or 9.
+fn aim(dx: i32, dy: i32) -> Aimed
+    requires { ⌜ (natAbs dx ≤ largestSide) × (natAbs dy ≤ largestSide) ⌝ }
+    ensures { λ r. ⌜ handedDirection r ≡ aimRow dx dy ⌝ }
 {
-    match leg {
-        Leg::Of(l) => {
-            if (l.x == 0) & (l.y == 0) {
-                return Aimed::Equal;
-            }
-            let u = units_of(l.x, l.y);
-            let x = ratio(l.left, l.x, u);
-            let y = ratio(l.up, l.y, u);
-            Aimed::Of(Direction { x, y })
-        }
-        Leg::First => Aimed::First,
-        Leg::Second => Aimed::Second,
+    if (dx == 0) & (dy == 0) {
+        return Aimed::Equal;
     }
+    let u = units_of(dx, dy);
+    let x = ratio(dx, u);
+    let y = ratio(dy, u);
+    Aimed::Of(Direction { x, y })
 }
 
 impl Direction {
     // The direction of a leg by its differences.
     pub fn of(dx: i32, dy: i32) -> Aimed
-        ensures { λ r. ⌜ handedDirection r ≡ directionRow (legByDifferences dx dy) ⌝ }
+        ensures { λ r. ⌜ handedDirection r ≡ directionRow dx dy ⌝ }
     {
-        direction_of(by_differences(dx, dy))
+        match check_differences(dx, dy) {
+            Checked::Accepted => aim(dx, dy),
+            Checked::Refused(why) => Aimed::Refused(why),
+        }
     }
 
     // The direction of a leg by its vertices.
     pub fn between(ax: usize, ay: usize, bx: usize, by: usize) -> Aimed
-        ensures { λ r. ⌜ handedDirection r ≡ directionRow (legByVertices ax ay bx by) ⌝ }
+        ensures { λ r. ⌜ handedDirection r ≡ directionBetweenRow ax ay bx by ⌝ }
     {
-        direction_of(by_vertices(ax, ay, bx, by))
+        match check_vertices(ax, ay, bx, by) {
+            Checked::Accepted => aim(difference(ax, bx), difference(ay, by)),
+            Checked::Refused(why) => Aimed::Refused(why),
+        }
     }
 }

@@ -16,7 +16,7 @@ use Rattle.reach.specs.Number.{pairs, Number, Number²}
 use Rattle.reach.specs.Reach.{Reach, move, NearPair, Ground}
 use Rattle.reach.specs.Turns.{at, Choice, nothing, arrived, vertex, Mode, Result, turns}
 use Rattle.reach.proofs.Marks.{taking, one-entry}
-use Rattle.reach.proofs.Turns.{Disciplined, Stopped, sane-start, turns-stopped, none-expansions}
+use Rattle.reach.proofs.Turns.{Disciplined, Stopped, started-stopped, none-expansions}
 
 -- the first open vertex
 isOpen : List ℕ → ℕ → Bool
@@ -93,9 +93,8 @@ module _ {n : ℕ} {near : ℕ → ℕ → Bool} {start : ℕ} (F : Ground n nea
   explored-stopped : Stopped (explorer n near) n near start n explored
   unfolding explorer explored begun
   explored-stopped =
-      turns-stopped F (explorer-disciplined n near) (suc n) (record { mark = begun; expansions = 0 })
-      (sane-start F (record { mark = begun; expansions = 0 }) (simp (length-set, length-replicate) (omega arith)) begun-at refl)
-      (omega arith)
+      started-stopped F (explorer-disciplined n near)
+      (record { room = simp (length-set, length-replicate) (omega arith); alone = begun-at; fresh = refl })
 
   pub some-number : (k : ℕ) × Number n (Reach near start) k
   some-number = (_, none-expansions F explored-stopped (go (bool-cases (explored .found))))
@@ -116,8 +115,8 @@ module _ {n : ℕ} {near : ℕ → ℕ → Bool} {start : ℕ} (F : Ground n nea
             yes-has = λ u v l m h.
                 let j = and-left (near u v) (p u) h in
                 let r = d .yes-has u (omega arith) (and-right (near u v) (p u) h) in
-                record { joined = j; left = r; right = move r j };
-            has-yes = λ u v l m q. and-both (q .joined) (d .has-yes u (omega arith) (q .left));
+                record { joined = j; one = r; other = move r j };
+            has-yes = λ u v l m q. and-both (q .joined) (d .has-yes u (omega arith) (q .one));
           },
           refl,
         ),

@@ -1,7 +1,8 @@
 pub mod Counting
-pub mod Steps
+pub mod Taken
 pub mod Marks
 pub mod Turns
 pub mod Going
-pub mod Along
+pub mod Carried
 pub mod Explored
+pub mod Complete

@@ -1,4 +1,4 @@
--- The discipline of marks: a taken vertex becomes 2, its unseen near neighbours 1. Each such change is a step in the sense of `Steps`,
+-- The discipline of marks: a taken vertex becomes 2, its unseen near neighbours 1. Each such change is a `Step` in the sense of Taken.antt,
 -- whatever else a search keeps. Assumes nothing.
 use mathlib.Core.Path.{_≡_, refl, ap, _∙_}
 use mathlib.Core.Logic.{_≢_}
@@ -12,7 +12,7 @@ use lib.ListN.{length, set, length-set}
 use lib.Seq.{getD-set-same, getD-set-other}
 use borrow.Author.Tests.{eq-eqb, ne-eqb}
 use Rattle.reach.specs.Turns.{at, seenIn, doneIn}
-use Rattle.reach.proofs.Steps.{Step}
+use Rattle.reach.proofs.Taken.{Step}
 
 -- every mark is 0, 1 or 2
 abbrev pub Marks : ℕ → List ℕ → Type 0

@@ -15,7 +15,7 @@ use Rattle.laws.proofs.Below.{many-le}
 use Rattle.reach.specs.Number.{Number, Number²}
 use Rattle.reach.specs.Reach.{Reach, NearPair, Ground}
 use Rattle.reach.specs.Turns.{at, seenIn, doneIn, Choice, nothing, arrived, vertex, Mode, Result, turns}
-use Rattle.reach.proofs.Steps.{Step, Inv, Idle, Tested, unmet, reach-below, inv-start, inv-step, tested-start, tested-step, all-done, idle-number, idle-pairs, open-fewer, open-room, tests-at-most}
+use Rattle.reach.proofs.Taken.{Step, Inv, Idle, Tested, unmet, reach-below, inv-start, inv-step, tested-start, tested-step, all-done, idle-number, idle-pairs, open-fewer, open-room, tests-at-most}
 use Rattle.reach.proofs.Marks.{Marks, taking, marks-step, marks-kept, length-taking}
 
 -- ---- one turn
@@ -52,12 +52,18 @@ pub record OneTestEach {S : Type 0} (M : Mode S) (tests : S → ℕ) (n : ℕ) (
       → tests (M .take u s) ≡ tests s + howMany n (unmet near (doneIn (M .mark s)) u)
   pub stop-tests : (s : S) → tests (M .stop s) ≡ tests s
 
+-- where every mode begins: the start alone is open, and nothing is expanded
+pub record Started {S : Type 0} (M : Mode S) (n start : ℕ) (s : S) : Type 0 where
+  pub room : n ≤ length (M .mark s)
+  pub alone : (v : ℕ) → v < n → at (M .mark s) v ≡ cond (eqb v start) 1 0
+  pub fresh : M .expansions s ≡ 0
+
 -- what holds between the turns of every mode
 pub record Sane {S : Type 0} (M : Mode S) (n : ℕ) (near : ℕ → ℕ → Bool) (start goal : ℕ) (s : S) : Type 0 where
   pub room : n ≤ length (M .mark s)
   pub marks : Marks n (M .mark s)
   pub inv : Inv n near start (seenIn (M .mark s)) (doneIn (M .mark s)) (M .expansions s)
-  pub goal-left : goal < n → doneIn (M .mark s) goal ≡ false
+  pub goal-waits : goal < n → doneIn (M .mark s) goal ≡ false
 
 -- how the turns of every mode end
 pub record Stopped {S : Type 0} (M : Mode S) (n : ℕ) (near : ℕ → ℕ → Bool) (start goal : ℕ) (r : Result S) : Type 0 where
@@ -88,26 +94,26 @@ begun-le : (c : Bool) → cond c 1 0 ≤ 2
 begun-le true = omega arith
 begun-le false = omega arith
 
--- where the start alone is open, no test has been made
-pub untested : {n : ℕ} {near : ℕ → ℕ → Bool} {start : ℕ} → Ground n near start
-    → (m : List ℕ) → ((v : ℕ) → v < n → at m v ≡ cond (eqb v start) 1 0) → Tested n near (doneIn m) 0
-untested {start = start} F m h = tested-start F (doneIn m) (λ v l. rw (h v l) (begun-done (eqb v start)))
+-- ---- the beginning
+
+module _ {S : Type 0} {M : Mode S} {n start : ℕ} {s : S} (B : Started M n start s) where
+  none-done : (v : ℕ) → v < n → doneIn (M .mark s) v ≡ false
+  none-done v l = rw (B .alone v l) (begun-done (eqb v start))
+
+  -- no test has been made
+  pub untested : {near : ℕ → ℕ → Bool} → Ground n near start → Tested n near (doneIn (M .mark s)) 0
+  untested F = tested-start F (doneIn (M .mark s)) none-done
+
+  pub sane-start : {near : ℕ → ℕ → Bool} {goal : ℕ} → Ground n near start → Sane M n near start goal s
+  sane-start {goal = goal} F = record {
+    room = B .room;
+    marks = λ v l. rw (B .alone v l) (begun-le (eqb v start));
+    inv = rw (B .fresh)
+        (inv-start F (seenIn (M .mark s)) (doneIn (M .mark s)) (λ v l. rw (B .alone v l) (begun-seen (eqb v start))) none-done);
+    goal-waits = λ on. none-done goal on;
+  }
 
 module _ {S : Type 0} {M : Mode S} {n : ℕ} {near : ℕ → ℕ → Bool} {start goal : ℕ} (F : Ground n near start) where
-  -- ---- the beginning: the start alone is open
-
-  pub sane-start : (s : S) → n ≤ length (M .mark s) → ((v : ℕ) → v < n → at (M .mark s) v ≡ cond (eqb v start) 1 0) → M .expansions s ≡ 0
-      → Sane M n near start goal s
-  sane-start s room m e = record {
-    room = room;
-    marks = λ v l. rw (m v l) (begun-le (eqb v start));
-    inv = rw e (inv-start F (seenIn (M .mark s)) (doneIn (M .mark s)) (λ v l. rw (m v l) (begun-seen (eqb v start))) done);
-    goal-left = λ on. done goal on;
-  }
-    where
-      done : (v : ℕ) → v < n → doneIn (M .mark s) v ≡ false
-      done v l = rw (m v l) (begun-done (eqb v start))
-
   pub expansions-le : {s : S} → Sane M n near start goal s → M .expansions s ≤ n
   expansions-le {s} G = omega (arith, G .inv .taken, many-le (doneIn (M .mark s)) n)
 
@@ -129,7 +135,7 @@ module _ {S : Type 0} {M : Mode S} {n : ℕ} {near : ℕ → ℕ → Bool} {star
           room = rw m (omega (arith, length-taking n near u (M .mark s) (c .0) (G .room) (c .1), G .room));
           marks = rw m (marks-kept n near u (M .mark s) (c .0) (G .room) (c .1) (G .marks));
           inv = rw (D .take-expansions u s) (inv-step F st (G .inv));
-          goal-left = λ on. st .done-now goal on ∙ rw (ne-eqb goal u (omega (arith, c .2))) (G .goal-left on);
+          goal-waits = λ on. st .done-now goal on ∙ rw (ne-eqb goal u (omega (arith, c .2))) (G .goal-waits on);
         }
 
     sane-stop : (s : S) → Sane M n near start goal s → Sane M n near start goal (M .stop s)
@@ -137,7 +143,7 @@ module _ {S : Type 0} {M : Mode S} {n : ℕ} {near : ℕ → ℕ → Bool} {star
       room = rw (D .stop-mark s) (G .room);
       marks = rw (D .stop-mark s) (G .marks);
       inv = rw (D .stop-mark s, D .stop-expansions s) (G .inv);
-      goal-left = rw (D .stop-mark s) (G .goal-left);
+      goal-waits = rw (D .stop-mark s) (G .goal-waits);
     }
 
     -- a vertex is picked only where one more expansion has room
@@ -168,6 +174,10 @@ module _ {S : Type 0} {M : Mode S} {n : ℕ} {near : ℕ → ℕ → Bool} {star
             rw (turns-arrived M k s e)
             (record { sane = sane-stop s G; at-goal = λ f. rw (D .stop-mark s) (D .pick-arrived s e); idle = λ f. absurd (true≢false f) })
         go (vertex u) e ih = rw (turns-vertex M k s u e) (ih u (sane-take u s G e) (omega (arith, D .take-expansions u s)))
+
+    -- as many turns as there are vertices, and one more, are enough
+    pub started-stopped : {s : S} → Started M n start s → Stopped M n near start goal (turns M (suc n) s)
+    started-stopped {s} B = turns-stopped (suc n) s (sane-start B F) (omega (arith, B .fresh))
 
     -- whatever each turn keeps, the turns keep
     pub turns-keep : {I : S → Type 0} → Keeps M n near start goal I → (k : ℕ) (s : S) → Sane M n near start goal s → I s → I ((turns M k s) .state)
@@ -200,7 +210,7 @@ module _ {S : Type 0} {M : Mode S} {n : ℕ} {near : ℕ → ℕ → Bool} {star
       where
         go : (r .found ≡ true) ⊎ (r .found ≡ false) → r .found ≡ true
         go (inl e) = e
-        go (inr e) = absurd (true≢false (sym (all-done F (E .sane .inv) (E .idle e) R) ∙ E .sane .goal-left (reach-below F R)))
+        go (inr e) = absurd (true≢false (sym (all-done F (E .sane .inv) (E .idle e) R) ∙ E .sane .goal-waits (reach-below F R)))
 
     pub none-expansions : r .found ≡ false → Number n (Reach near start) (M .expansions (r .state))
     none-expansions f = idle-number F (E .sane .inv) (E .idle f)

@@ -1,3 +1,4 @@
 pub mod Reach
 pub mod Number
+pub mod Complete
 pub mod Turns

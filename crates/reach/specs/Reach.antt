@@ -11,8 +11,8 @@ pub data Reach (near : ℕ → ℕ → Bool) (s : ℕ) : ℕ → Type 0 where
 -- u and v are near, and both are reached from s
 pub record NearPair (near : ℕ → ℕ → Bool) (s u v : ℕ) : Type 0 where
   pub joined : near u v ≡ true
-  pub left : Reach near s u
-  pub right : Reach near s v
+  pub one : Reach near s u
+  pub other : Reach near s v
 
 -- what being near has to be, among n vertices: the same both ways, never with oneself, and only on the board
 pub record Near (n : ℕ) (near : ℕ → ℕ → Bool) : Type 0 where

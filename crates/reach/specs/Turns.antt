@@ -27,7 +27,7 @@ pub data Choice : Type 0 where
   arrived : Choice
   vertex : ℕ → Choice
 
--- a way to search with states S: what a state says of marks and expansions, what it picks, what arriving and taking do to it
+-- how to search with states S: what a state says of marks and expansions, what it picks, what arriving and taking do to it
 pub record Mode (S : Type 0) : Type 0 where
   pub mark : S → List ℕ
   pub expansions : S → ℕ

@@ -1,26 +1,45 @@
 // The route program: a job on standard input, a line for each net on standard output.
+ghost use mathlib.Core.Path.{_≡_};
 ghost use Prim.Native.Nat.{_≤_};
-ghost use Rattle.board.specs.Limits.{side};
-use board::MOST;
-use board::SIDE;
+ghost use Rattle.board.specs.Limits.{largestSide};
+ghost use Rattle.job.specs.Inner.{Accepted};
+ghost use Rattle.route.specs.Limits.{cellRoom, vertexRoom};
 use board::Vertex;
 use board::inner::column_of;
 use board::inner::row_of;
 use job::BoardAnswer;
 use job::LONGEST;
 use job::NetAnswer;
+use job::inner::net_at;
 use job::read_board;
-use job::read_net;
 use router::Answer;
 use router::route;
 
 // One byte more than the longest job, so that a longer one is known.
 const ROOM: usize = LONGEST + 1;
 
-// The cells of the largest board.
-const CELLS: usize = SIDE * SIDE;
+// The program's own limit: its buffers are for boards up to this side.
+const WIDEST: usize = 63;
+
+// The cells and the vertices of such a board.
+const CELLS: usize = WIDEST * WIDEST;
+
+const VERTICES: usize = (WIDEST + 1) * (WIDEST + 1);
 
 const OUT: i32 = 1;
+
+// The buffers' sizes are those that the definition has for such a board.
+fn cell_room() -> usize
+    ensures { λ r. ⌜ r ≡ cellRoom ⌝ }
+{
+    CELLS
+}
+
+fn vertex_room() -> usize
+    ensures { λ r. ⌜ r ≡ vertexRoom ⌝ }
+{
+    VERTICES
+}
 
 fn write_refusal(number: u64, place: usize) {
     io::write_all(OUT, b"refused ");
@@ -39,7 +58,7 @@ fn write_counts(expansions: u64, tests: u64) {
 
 // A vertex as x,y, after a space.
 fn write_vertex(width: usize, v: Vertex)
-    requires { ⌜ width ≤ side ⌝ }
+    requires { ⌜ width ≤ largestSide ⌝ }
 {
     io::write_all(OUT, b" ");
     io::print_decimal(OUT, column_of(width, v) as u64);
@@ -49,7 +68,7 @@ fn write_vertex(width: usize, v: Vertex)
 
 // The vertices of a path.
 fn write_vertices(width: usize, count: usize, path: &[Vertex])
-    requires { ⌜ width ≤ side ⌝ }
+    requires { ⌜ width ≤ largestSide ⌝ }
 {
     io::write_all(OUT, b" at");
     let mut i = 0;
@@ -72,12 +91,12 @@ fn write_route(
     gx: usize,
     gy: usize,
 )
-    requires { ⌜ width ≤ side ⌝ }
+    requires { ⌜ width ≤ largestSide ⌝ }
 {
-    let mut g = [0u64; MOST];
-    let mut parents = [0 as Vertex; MOST];
-    let mut marks = [0u8; MOST];
-    let mut path = [0 as Vertex; MOST];
+    let mut g = [0u64; VERTICES];
+    let mut parents = [0 as Vertex; VERTICES];
+    let mut marks = [0u8; VERTICES];
+    let mut path = [0 as Vertex; VERTICES];
     match route(
         cells,
         width,
@@ -115,7 +134,8 @@ fn write_route(
 
 // A line for each net, in order.
 fn write_nets(job: &[u8], cells: &[u8], width: usize, height: usize, nets: usize)
-    requires { ⌜ width ≤ side ⌝ }
+    requires { ⌜ width ≤ largestSide ⌝ }
+    requires { ⌜ Accepted (now job) ⌝ }
 {
     for index in 0..nets {
         let NetAnswer::Net {
@@ -124,7 +144,7 @@ fn write_nets(job: &[u8], cells: &[u8], width: usize, height: usize, nets: usize
             sy,
             gx,
             gy,
-        } = read_net(job, index)
+        } = net_at(job, index)
         else {
             return;
         };

@@ -1,54 +1,58 @@
 -- Demands 2 and 3, proved of every call. Assumes nothing.
 use mathlib.Core.Path.{_≡_, refl, sym, ap, _∙_, subst}
-use mathlib.Core.Bool.{Bool, true, false, not, _||_, _&&_, cond, true≢false, false≢true}
+use mathlib.Core.Bool.{Bool, true, false, not, _||_, cond, true≢false, false≢true}
 use mathlib.Core.List.{List, [], _++_}
-use Prim.Native.Nat.{ℕ, _*_, _^_, _≤_, _<_}
+use Prim.Native.Nat.{ℕ, _^_, _≤_, _<_}
 use native.Mathlib.Omega.{arith}
-use lib.Dec.{ltb, eqb}
+use lib.Dec.{ltb}
 use lib.ListN.{length, drop, take, length-append}
 use lib.Seq.{take-append-seam}
-use borrow.Author.Tests.{ltb-false}
-use Rattle.board.specs.Board.{Board, Sound, OnBoard, vertices, number, isVertex}
-use Rattle.board.specs.Paper.{Handed, refusal, accepted, sideFits, firstBad, boardRows, endRows, legRows}
-use Rattle.board.proofs.Rows.{leg-sound, leg-first}
+use borrow.Author.Tests.{ltb-false, not-true}
+use Rattle.board.specs.Board.{Board, vertices, number}
+use Rattle.board.specs.Inner.{Sound, OnBoard}
+use Rattle.board.specs.Handed.{Verdict, passes, refused, row, andThen, Handed, unless, legRows}
+use Rattle.board.proofs.Verdicts.{both-pass, Within, row-within, then-within}
+use Rattle.board.proofs.Rows.{leg-sound, leg-first, leg-within}
 use Rattle.length.proofs.Floats.{cells-exact}
 use Rattle.reach.specs.Turns.{at}
-use Rattle.search.specs.Search.{Problem, search, path}
-use Rattle.search.specs.Demands.{Searched}
-use Rattle.search.specs.Request.{problem}
-use Rattle.search.proofs.Theorems.{board-complete, board-route, board-measured, found-units, found-exact}
-use Rattle.router.specs.Paper.{found, none, searchRow, Lent, routeRow, searched, Routed}
+use Rattle.theta.specs.Search.{Problem, search, path}
+use Rattle.theta.specs.Lent.{Searched}
+use Rattle.search.specs.Problem.{problem}
+use Rattle.search.proofs.Theorems.{board-complete, board-tested, board-route, board-measured, found-units, found-exact}
+use Rattle.router.specs.Answers.{Route, noRoute, found, none, Slices, workRow, searchRow, routeRow, searched, Routed}
 use Rattle.router.specs.Demands.{Exhaustive, Rightly}
 
 -- a request that is searched passed the checks 1 to 6
-passed : (x₁ x₂ x₃ x₄ x₅ x₆ : Bool) (p : ℕ) (rest : Handed)
-    → searched ((cond x₁ (refusal 1 0) (cond x₂ (refusal 2 0) (cond x₃ (refusal 3 p) (cond x₄ (refusal 4 0) (cond x₅ (refusal 5 0) (cond x₆ (refusal 6 0) rest)))))) .number) ≡ true
-    → (cond x₁ (refusal 1 0) (cond x₂ (refusal 2 0) (cond x₃ (refusal 3 p) (cond x₄ (refusal 4 0) (cond x₅ (refusal 5 0) accepted)))) ≡ accepted)
-    × (cond x₁ (refusal 1 0) (cond x₂ (refusal 2 0) (cond x₃ (refusal 3 p) (cond x₄ (refusal 4 0) (cond x₅ (refusal 5 0) (cond x₆ (refusal 6 0) rest))))) ≡ rest)
-passed true x₂ x₃ x₄ x₅ x₆ p rest e = absurd (false≢true e)
-passed false true x₃ x₄ x₅ x₆ p rest e = absurd (false≢true e)
-passed false false true x₄ x₅ x₆ p rest e = absurd (false≢true e)
-passed false false false true x₅ x₆ p rest e = absurd (false≢true e)
-passed false false false false true x₆ p rest e = absurd (false≢true e)
-passed false false false false false true p rest e = absurd (false≢true e)
-passed false false false false false false p rest e = (refl, refl)
+passed : (v : Verdict) (rest : Handed Route) → Within (λ (n : ℕ). not (searched n)) v → searched (unless noRoute v rest .number) ≡ true
+    → (v ≡ passes) × (unless noRoute v rest ≡ rest)
+passed passes rest q e = (refl, refl)
+passed (refused n p s) rest q e = absurd (false≢true (sym (not-true (searched n) q) ∙ e))
 
-module _ (b : Board) (sx sy gx gy : ℕ) (lent : Lent) (e : searched (routeRow b sx sy gx gy lent .number) ≡ true) where
-  both : (legRows b sx sy gx gy accepted ≡ accepted) × (routeRow b sx sy gx gy lent ≡ searchRow (problem b sx sy gx gy) (lent .path))
-  unfolding routeRow boardRows endRows
+module _ (b : Board) (sx sy gx gy : ℕ) (lent : Slices) (e : searched (routeRow b sx sy gx gy lent .number) ≡ true) where
+  abbrev short : Bool
+  short = ltb (length (lent .g)) (vertices b) || (ltb (length (lent .parents)) (vertices b) || ltb (length (lent .marks)) (vertices b))
+
+  abbrev quiet : ℕ → Bool
+  quiet n = not (searched n)
+
+  -- the rows 1 to 6 pass, and what the search says is handed back
+  both : (andThen (legRows b sx sy gx gy) (workRow (vertices b) lent) ≡ passes)
+      × (routeRow b sx sy gx gy lent ≡ searchRow (problem b sx sy gx gy) (length (lent .path)))
+  unfolding routeRow workRow
   both =
-      passed (not (sideFits (b .width) && sideFits (b .height))) (not (eqb (length (b .cells)) (b .width * b .height)))
-      (ltb (firstBad (b .cells)) (length (b .cells))) (not (isVertex b sx sy)) (not (isVertex b gx gy))
-      (ltb (lent .g) (vertices b) || (ltb (lent .parents) (vertices b) || ltb (lent .marks) (vertices b))) (firstBad (b .cells))
-      (searchRow (problem b sx sy gx gy) (lent .path)) e
+      passed (andThen (legRows b sx sy gx gy) (workRow (vertices b) lent)) (searchRow (problem b sx sy gx gy) (length (lent .path)))
+      (then-within quiet (legRows b sx sy gx gy) (workRow (vertices b) lent) (leg-within quiet b sx sy gx gy refl refl refl refl refl) (row-within quiet short 6 0 refl)) e
+
+  leg-passes : legRows b sx sy gx gy ≡ passes
+  leg-passes = both-pass (legRows b sx sy gx gy) (workRow (vertices b) lent) (both .0) .0
 
   start-on : OnBoard b sx sy
-  start-on = leg-first b sx sy gx gy (both .0)
+  start-on = leg-first b sx sy gx gy leg-passes
 
   sound : Sound b
-  sound = leg-sound b sx sy gx gy (both .0)
+  sound = leg-sound b sx sy gx gy leg-passes
 
-  row-searched : routeRow b sx sy gx gy lent ≡ searchRow (problem b sx sy gx gy) (lent .path)
+  row-searched : routeRow b sx sy gx gy lent ≡ searchRow (problem b sx sy gx gy) (length (lent .path))
   row-searched = both .1
 
 -- ---- what the search's row says
@@ -57,29 +61,29 @@ module _ (b : Board) (sx sy gx gy : ℕ) (lent : Lent) (e : searched (routeRow b
 abbrev count : Problem → ℕ
 count p = length (path p (search p .state))
 
-abbrev told : Problem → Handed
-told p = found (at (search p .state .g) (p .goal)) (count p) (search p .state .expansions) (search p .state .tests)
+abbrev success : Problem → Handed Route
+success p = found (at (search p .state .g) (p .goal)) (count p) (search p .state .expansions) (search p .state .tests)
 
-abbrev missed : Problem → Handed
-missed p = none (search p .state .expansions) (search p .state .tests)
+abbrev failure : Problem → Handed Route
+failure p = none (search p .state .expansions) (search p .state .tests)
 
 module _ (p : Problem) (lent : ℕ) where
-  zero-found : searchRow p lent .number ≡ 0 → (search p .found ≡ true) × ((count p) ≤ lent) × (searchRow p lent ≡ (told p))
+  zero-found : searchRow p lent .number ≡ 0 → (search p .found ≡ true) × ((count p) ≤ lent) × (searchRow p lent ≡ (success p))
   unfolding searchRow
   zero-found e = go (search p .found) (ltb lent (count p)) refl refl e
     where
-      go : (f l : Bool) → search p .found ≡ f → ltb lent (count p) ≡ l → (cond f (cond l (refusal 7 (count p)) (told p)) (missed p)) .number ≡ 0
-          → (search p .found ≡ true) × ((count p) ≤ lent) × (cond f (cond l (refusal 7 (count p)) (told p)) (missed p) ≡ (told p))
+      go : (f l : Bool) → search p .found ≡ f → ltb lent (count p) ≡ l → (cond f (unless noRoute (row l 7 (count p)) (success p)) (failure p)) .number ≡ 0
+          → (search p .found ≡ true) × ((count p) ≤ lent) × (cond f (unless noRoute (row l 7 (count p)) (success p)) (failure p) ≡ (success p))
       go true true a c e = absurd (omega arith)
       go true false a c e = (a, ltb-false lent (count p) c, refl)
       go false l a c e = absurd (omega arith)
 
-  eight-none : searchRow p lent .number ≡ 8 → (search p .found ≡ false) × (searchRow p lent ≡ (missed p))
+  eight-none : searchRow p lent .number ≡ 8 → (search p .found ≡ false) × (searchRow p lent ≡ (failure p))
   unfolding searchRow
   eight-none e = go (search p .found) (ltb lent (count p)) refl e
     where
-      go : (f l : Bool) → search p .found ≡ f → (cond f (cond l (refusal 7 (count p)) (told p)) (missed p)) .number ≡ 8
-          → (search p .found ≡ false) × (cond f (cond l (refusal 7 (count p)) (told p)) (missed p) ≡ (missed p))
+      go : (f l : Bool) → search p .found ≡ f → (cond f (unless noRoute (row l 7 (count p)) (success p)) (failure p)) .number ≡ 8
+          → (search p .found ≡ false) × (cond f (unless noRoute (row l 7 (count p)) (success p)) (failure p) ≡ (failure p))
       go true true a e = absurd (omega arith)
       go true false a e = absurd (omega arith)
       go false l a e = (a, refl)
@@ -92,26 +96,26 @@ left-by p f = record { found-is = sym f; expansions-is = refl; tests-is = refl; 
 
 -- ---- the demands
 
-module _ (b : Board) (sx sy gx gy : ℕ) (lent : Lent) where
-  abbrev h : Handed
+module _ (b : Board) (sx sy gx gy : ℕ) (lent : Slices) where
+  abbrev h : Handed Route
   h = routeRow b sx sy gx gy lent
 
   abbrev p : Problem
   p = problem b sx sy gx gy
 
   -- a path: the search has found one, and it fits
-  zero : h .number ≡ 0 → OnBoard b sx sy × (search p .found ≡ true) × (count p ≤ lent .path) × (h ≡ told p)
+  zero : h .number ≡ 0 → OnBoard b sx sy × (search p .found ≡ true) × (count p ≤ length (lent .path)) × (h ≡ success p)
   zero e =
       let s : searched (h .number) ≡ true = rw e in
       let r = row-searched b sx sy gx gy lent s in
-      let z = zero-found p (lent .path) (ap (λ (x : Handed). x .number) (sym r) ∙ e) in
+      let z = zero-found p (length (lent .path)) (ap (λ (x : Handed Route). x .number) (sym r) ∙ e) in
       (start-on b sx sy gx gy lent s, z .0, z .1, r ∙ z .2)
 
-  eight : h .number ≡ 8 → OnBoard b sx sy × (search p .found ≡ false) × (h ≡ missed p)
+  eight : h .number ≡ 8 → OnBoard b sx sy × (search p .found ≡ false) × (h ≡ failure p)
   eight e =
       let s : searched (h .number) ≡ true = rw e in
       let r = row-searched b sx sy gx gy lent s in
-      let z = eight-none p (lent .path) (ap (λ (x : Handed). x .number) (sym r) ∙ e) in
+      let z = eight-none p (length (lent .path)) (ap (λ (x : Handed Route). x .number) (sym r) ∙ e) in
       (start-on b sx sy gx gy lent s, z .0, r ∙ z .1)
 
   row-exhaustive : Exhaustive b sx sy gx gy h
@@ -120,9 +124,9 @@ module _ (b : Board) (sx sy gx gy : ℕ) (lent : Lent) where
     path-joined = λ e. let z = zero e in board-complete b sx sy gx gy (z .0) .found-reach (z .1);
     none-apart = λ e j. let z = eight e in true≢false (sym (board-complete b sx sy gx gy (z .0) .reach-found j) ∙ z .1);
     none-expansions = λ e. let z = eight e in rw (z .2) (board-complete b sx sy gx gy (z .0) .none-expansions (z .1));
-    none-tests = λ e. let z = eight e in rw (z .2) (board-complete b sx sy gx gy (z .0) .none-tests (z .1));
+    none-tests = λ e. let z = eight e in rw (z .2) (board-tested b sx sy gx gy (z .0) .none-tests (z .1));
     path-expansions = λ e. let z = zero e in rw (z .3) (board-complete b sx sy gx gy (z .0) .found-expansions (z .1));
-    path-tests = λ e. let z = zero e in rw (z .3) (board-complete b sx sy gx gy (z .0) .found-tests (z .1));
+    path-tests = λ e. let z = zero e in rw (z .3) (board-tested b sx sy gx gy (z .0) .found-tests (z .1));
   }
 
   -- an f64 holds the units of a path
@@ -132,31 +136,28 @@ module _ (b : Board) (sx sy gx gy : ℕ) (lent : Lent) where
       let F = left-by p (z .1) in
       subst (λ (n : ℕ). n < 2 ^ 53) (found-units (z .0) gx gy F) (found-exact (z .0) gx gy F (sound b sx sy gx gy lent (rw e)))
 
-  row-rightly : (way way′ : List ℕ) → h .number ≡ 0 → way′ ≡ path p (search p .state) ++ drop (count p) way → Rightly b sx sy gx gy h way′
+  row-rightly : (path₀ path′ : List ℕ) → h .number ≡ 0 → path′ ≡ path p (search p .state) ++ drop (count p) path₀ → Rightly b sx sy gx gy h path′
   unfolding problem
-  row-rightly way way′ e w =
+  row-rightly path₀ path′ e w =
       let z = zero e in
-      let front : take (count p) way′ ≡ path p (search p .state) = rw w (take-append-seam (path p (search p .state)) (drop (count p) way)) in
+      let front : take (count p) path′ ≡ path p (search p .state) = rw w (take-append-seam (path p (search p .state)) (drop (count p) path₀)) in
       rw (z .3) (record {
         count = rw (w, length-append) (omega arith);
         route = rw front (board-route b sx sy gx gy (z .0) (z .1));
-        measured = rw front (board-measured b sx sy gx gy (z .0) (z .1));
+        rounded = rw front (board-measured b sx sy gx gy (z .0) (z .1));
         cells = cells-exact (at (search p .state .g) (number b gx gy)) (zero-units e);
       })
 
 -- ---- of every call
 
-module _ {b : Board} {sx sy gx gy : ℕ} {g parents marks way g′ parents′ marks′ way′ : List ℕ} {h : Handed}
-    (R : Routed b sx sy gx gy g parents marks way g′ parents′ marks′ way′ h) where
-  abbrev lent : Lent
-  lent = record { g = length g; parents = length parents; marks = length marks; path = length way }
-
+module _ {b : Board} {sx sy gx gy : ℕ} {before after : Slices} {h : Handed Route} (R : Routed b sx sy gx gy before after h) where
   -- demand 3
   pub route-exhaustive : Exhaustive b sx sy gx gy h
-  route-exhaustive = rw (R .row) (row-exhaustive b sx sy gx gy lent)
+  route-exhaustive = rw (R .row-is) (row-exhaustive b sx sy gx gy before)
 
   -- demand 2
-  pub route-rightly : h .number ≡ 0 → Rightly b sx sy gx gy h way′
+  pub route-rightly : h .number ≡ 0 → Rightly b sx sy gx gy h (after .path)
   route-rightly e =
-      let z : routeRow b sx sy gx gy lent .number ≡ 0 = ap (λ (x : Handed). x .number) (sym (R .row)) ∙ e in
-      rw (R .row) (row-rightly b sx sy gx gy lent way way′ z (R .way-left ∙ rw e))
+      let z : routeRow b sx sy gx gy before .number ≡ 0 = ap (λ (x : Handed Route). x .number) (sym (R .row-is)) ∙ e in
+      let w = ap (λ (s : Slices). s .path) (R .after-is) in
+      rw (R .row-is) (row-rightly b sx sy gx gy before (before .path) (after .path) z (w ∙ rw e))

@@ -1,4 +1,4 @@
-pub mod Telling
+pub mod Inside
 pub mod Routing
 pub mod Determined
 pub mod Demands

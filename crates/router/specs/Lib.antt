@@ -1,3 +1,3 @@
-pub mod Paper
-pub mod Telling
+pub mod Answers
+pub mod Inside
 pub mod Demands

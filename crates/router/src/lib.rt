@@ -3,12 +3,12 @@ ghost use mathlib.Core.Path.{_≡_};
 ghost use Prim.Native.Nat.{_^_, _<_};
 ghost use lib.ListN.{length};
 ghost use Rattle.board.specs.Board.{board};
-ghost use Rattle.board.specs.Paper as checks;
-ghost use Rattle.search.specs.Back.{Traced};
-ghost use Rattle.router.specs.Paper.{handed, Routed};
-ghost use Rattle.search.specs.Request.{problem};
-ghost use Rattle.router.specs.Telling.{Told, Ran, Passed};
+ghost use Rattle.theta.specs.Back.{Traced};
+ghost use Rattle.router.specs.Answers.{handedRoute, slices, Routed};
+ghost use Rattle.search.specs.Problem.{problem};
+ghost use Rattle.router.specs.Inside.{PathGiven, Ran, Passed};
 use board::Checked;
+use board::Refusal;
 use board::Vertex;
 use board::check_leg;
 use board::inner::number_of;
@@ -32,30 +32,12 @@ pub enum Answer {
         expansions: u64,
         tests: u64,
     },
-    Side,
-    Count,
-    Byte(usize),
-    First,
-    Second,
+    // The checks refuse the request: document 01's 1 to 5.
+    Refused(Refusal),
     // A work slice is shorter than the number of vertices.
     Work,
     // The path slice is shorter than the path, which has so many vertices.
     Short(usize),
-}
-
-// A refusal by the checks 1 to 5.
-fn refused(checked: Checked) -> Answer
-    requires { ⌜ (checked ≡ Checked.Accepted → ⊥) ⌝ }
-    ensures { λ r. ⌜ handed r ≡ checks.handed checked ⌝ }
-{
-    match checked {
-        Checked::Accepted => Answer::Work,
-        Checked::Side => Answer::Side,
-        Checked::Count => Answer::Count,
-        Checked::Byte(at) => Answer::Byte(at),
-        Checked::First => Answer::First,
-        Checked::Second => Answer::Second,
-    }
 }
 
 // The path that the parents give, written if the lent slice can hold it.
@@ -69,7 +51,7 @@ fn tell_path(
 ) -> Answer
     requires { ⌜ Traced (length (now parents)) start (now parents) goal ⌝ }
     requires { ⌜ units < 2 ^ 53 ⌝ }
-    ensures { λ r. ⌜ Told start goal units (outcome .expansions) (outcome .tests) (now (parents .entry)) (now (path .entry)) (now (path .exit)) (handed r) ⌝ }
+    ensures { λ r. ⌜ PathGiven start goal units (outcome .expansions) (outcome .tests) (now (parents .entry)) (now (path .entry)) (now (path .exit)) (handedRoute r) ⌝ }
 {
     let vertices = count_path(start, goal, parents);
     if path.len() < vertices {
@@ -100,7 +82,7 @@ fn search_route(
     path: &mut [Vertex],
 ) -> Answer
     requires { ⌜ Passed (board (now cells) width height) sx sy gx gy (now g) (now parents) (now marks) ⌝ }
-    ensures { λ r. ⌜ Ran (problem (board (now (cells .entry)) width height) sx sy gx gy) (now (g .entry)) (now (parents .entry)) (now (marks .entry)) (now (path .entry)) (now (g .exit)) (now (parents .exit)) (now (marks .exit)) (now (path .exit)) (handed r) ⌝ }
+    ensures { λ r. ⌜ Ran (problem (board (now (cells .entry)) width height) sx sy gx gy) (slices (now (g .entry)) (now (parents .entry)) (now (marks .entry)) (now (path .entry))) (slices (now (g .exit)) (now (parents .exit)) (now (marks .exit)) (now (path .exit))) (handedRoute r) ⌝ }
 {
     let outcome = find(cells, width, height, sx, sy, gx, gy, g, parents, marks);
     if !outcome.found {
@@ -129,12 +111,12 @@ pub fn route(
     marks: &mut [u8],
     path: &mut [Vertex],
 ) -> Answer
-    ensures { λ r. ⌜ Routed (board (now (cells .entry)) width height) sx sy gx gy (now (g .entry)) (now (parents .entry)) (now (marks .entry)) (now (path .entry)) (now (g .exit)) (now (parents .exit)) (now (marks .exit)) (now (path .exit)) (handed r) ⌝ }
+    ensures { λ r. ⌜ Routed (board (now (cells .entry)) width height) sx sy gx gy (slices (now (g .entry)) (now (parents .entry)) (now (marks .entry)) (now (path .entry))) (slices (now (g .exit)) (now (parents .exit)) (now (marks .exit)) (now (path .exit))) (handedRoute r) ⌝ }
 {
     let checked = check_leg(cells, width, height, sx, sy, gx, gy);
-    let Checked::Accepted = checked else {
-        return refused(checked);
-    };
+    if let Checked::Refused(why) = checked {
+        return Answer::Refused(why);
+    }
     let vertices = (width + 1) * (height + 1);
     if (g.len() < vertices) | ((parents.len() < vertices) | (marks.len() < vertices)) {
         return Answer::Work;

@@ -4,23 +4,24 @@ use Prim.Native.Nat.{ℕ, _+_, _-_, _*_, _^_, _≤_, _<_}
 use native.Mathlib.Nat.{mul-le-mul, mul-le-mul-right, add-le-add, le-trans, lt-of-le-of-lt}
 use native.Mathlib.Omega.{arith}
 use lib.Dec.{lit<}
-use Rattle.board.specs.Limits.{side, mostVertices}
+use Rattle.board.specs.Limits.{largestSide, mostVertices}
 use Rattle.board.specs.Board.{Board, number}
 use Rattle.board.proofs.Numbers.{column-number, row-number}
 use Rattle.length.specs.Legs.{step}
 use Rattle.length.specs.Units.{unitsPerCell, units}
 use Rattle.length.proofs.Units.{units-most}
-use Rattle.length.proofs.Steps.{step-size}
-use Rattle.search.specs.Request.{unitsFrom, longest, largest}
+use Rattle.length.proofs.Legs.{step-size}
+use Rattle.search.specs.Problem.{unitsFrom}
+use Rattle.search.specs.Request.{longest, largest}
 
-module _ (width height : ℕ) (w : width ≤ side) (h : height ≤ side) where
+module _ (width height : ℕ) (w : width ≤ largestSide) (h : height ≤ largestSide) where
   pub vertices-most : (width + 1) * (height + 1) ≤ mostVertices
   vertices-most = mul-le-mul (add-one-le w) (add-one-le h)
     where
-      add-one-le : {a : ℕ} → a ≤ side → a + 1 ≤ side + 1
+      add-one-le : {a : ℕ} → a ≤ largestSide → a + 1 ≤ largestSide + 1
       add-one-le l = omega arith
 
-  longest-le : longest width height ≤ longest side side
+  longest-le : longest width height ≤ longest largestSide largestSide
   longest-le = mul-le-mul-right unitsPerCell (add-le-add w h)
 
   -- the largest g and a leg more

@@ -1,8 +1,4 @@
-pub mod Search
-pub mod Demands
+pub mod Problem
 pub mod Request
-pub mod Back
-pub mod Rows
-pub mod Lengths
 pub mod Round
-pub mod Begun
+pub mod Turns

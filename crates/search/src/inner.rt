@@ -1,27 +1,135 @@
 // Calls for the crates above, which have checked their board: each says what it requires.
 ghost use mathlib.Core.Path.{_≡_};
 ghost use mathlib.Core.List.{_++_};
-ghost use Prim.Native.Nat.{_≤_};
+ghost use Prim.Native.Nat.{_+_, _*_, _≤_};
 ghost use lib.ListN.{length, drop};
-ghost use Rattle.board.specs.Board.{Sound, OnBoard, board, vertices};
-ghost use Rattle.search.specs.Search.{trail};
-ghost use Rattle.search.specs.Demands.{Searched};
-ghost use Rattle.search.specs.Back.{Traced};
-ghost use Rattle.search.specs.Request.{problem};
+ghost use Rattle.board.specs.Board.{board, vertices};
+ghost use Rattle.board.specs.Inner.{Sound, OnBoard};
+ghost use Rattle.table.specs.Lengths.{smallSide, middleSide, Known};
+ghost use Rattle.theta.specs.Search.{trail};
+ghost use Rattle.theta.specs.Lent.{Searched};
+ghost use Rattle.theta.specs.Back.{Traced};
+ghost use Rattle.search.specs.Problem.{problem};
+ghost use Rattle.search.specs.Request.{asked, sizeOf, diagonal, Asked};
 use crate::Outcome;
 use crate::Request;
-use crate::lengths::SQUARES;
-use crate::lengths::units_between;
-use crate::open::BLOCK;
-use crate::open::ENTRIES;
-use crate::open::MARGINS;
-use crate::open::NO_KEY;
-use crate::open::leave_out;
 use crate::turns::begin;
 use crate::turns::run;
 use board::LINE;
+use board::SIDE;
 use board::Vertex;
 use board::inner::number_of;
+use open::list::GROUP;
+use open::list::open_vertex;
+use open::tree::NO_KEY;
+use table::MIDDLE_SIDE;
+use table::SMALL_SIDE;
+use table::large_lengths;
+use table::middle_lengths;
+use table::small_lengths;
+
+// The nodes of the largest board; node 0 is not used.
+const NODES: usize = 2 * LINE * (SIDE / GROUP + 1);
+
+// The search, by a table that has the lengths of its board. The nodes are made here and not lent, so that each is read and written
+// without a pointer to it.
+fn find_by(
+    cells: &[u8],
+    request: Request,
+    g: &mut [u64],
+    parents: &mut [Vertex],
+    marks: &mut [u8],
+    table: &[u32],
+) -> Outcome
+    requires { ⌜ Asked (now cells) request ⌝ }
+    requires { ⌜ (sizeOf request ≤ length (now g)) × (sizeOf request ≤ length (now parents)) × (sizeOf request ≤ length (now marks)) ⌝ }
+    requires { ⌜ Known (diagonal request) (now table) ⌝ }
+    ensures { λ r. ⌜ Searched (asked (now (cells .entry)) request) (now (g .entry)) (now (parents .entry)) (now (marks .entry)) (now (g .exit)) (now (parents .exit)) (now (marks .exit)) (r .found) (r .expansions) (r .tests) ⌝ }
+{
+    let mut leads = [0 as Vertex; NODES];
+    let mut keys = [NO_KEY; NODES];
+    let start = number_of(request.width, request.sx, request.sy);
+    begin(
+        (request.width + 1) * (request.height + 1),
+        start,
+        g,
+        parents,
+        marks,
+    );
+    open_vertex(
+        request.width,
+        request.height,
+        request.sx,
+        request.sy,
+        request.gx,
+        request.gy,
+        start as usize,
+        0,
+        g,
+        marks,
+        &mut leads,
+        &mut keys,
+        table,
+    );
+    run(
+        cells,
+        request,
+        g,
+        parents,
+        marks,
+        &mut leads,
+        &mut keys,
+        table,
+    )
+}
+
+// The search on a small board, on a middle one, and on any: the table that is made for it is no longer than its board asks for.
+fn find_small(
+    cells: &[u8],
+    request: Request,
+    g: &mut [u64],
+    parents: &mut [Vertex],
+    marks: &mut [u8],
+) -> Outcome
+    requires { ⌜ Asked (now cells) request ⌝ }
+    requires { ⌜ (sizeOf request ≤ length (now g)) × (sizeOf request ≤ length (now parents)) × (sizeOf request ≤ length (now marks)) ⌝ }
+    requires { ⌜ (request .width ≤ smallSide) × (request .height ≤ smallSide) ⌝ }
+    ensures { λ r. ⌜ Searched (asked (now (cells .entry)) request) (now (g .entry)) (now (parents .entry)) (now (marks .entry)) (now (g .exit)) (now (parents .exit)) (now (marks .exit)) (r .found) (r .expansions) (r .tests) ⌝ }
+{
+    let table = small_lengths();
+    find_by(cells, request, g, parents, marks, &table)
+}
+
+fn find_middle(
+    cells: &[u8],
+    request: Request,
+    g: &mut [u64],
+    parents: &mut [Vertex],
+    marks: &mut [u8],
+) -> Outcome
+    requires { ⌜ Asked (now cells) request ⌝ }
+    requires { ⌜ (sizeOf request ≤ length (now g)) × (sizeOf request ≤ length (now parents)) × (sizeOf request ≤ length (now marks)) ⌝ }
+    requires { ⌜ (request .width ≤ middleSide) × (request .height ≤ middleSide) ⌝ }
+    ensures { λ r. ⌜ Searched (asked (now (cells .entry)) request) (now (g .entry)) (now (parents .entry)) (now (marks .entry)) (now (g .exit)) (now (parents .exit)) (now (marks .exit)) (r .found) (r .expansions) (r .tests) ⌝ }
+{
+    let table = middle_lengths();
+    find_by(cells, request, g, parents, marks, &table)
+}
+
+fn find_large(
+    cells: &[u8],
+    request: Request,
+    g: &mut [u64],
+    parents: &mut [Vertex],
+    marks: &mut [u8],
+) -> Outcome
+    requires { ⌜ Asked (now cells) request ⌝ }
+    requires { ⌜ (sizeOf request ≤ length (now g)) × (sizeOf request ≤ length (now parents)) × (sizeOf request ≤ length (now marks)) ⌝ }
+    ensures { λ r. ⌜ Searched (asked (now (cells .entry)) request) (now (g .entry)) (now (parents .entry)) (now (marks .entry)) (now (g .exit)) (now (parents .exit)) (now (marks .exit)) (r .found) (r .expansions) (r .tests) ⌝ }
+{
+    let table = large_lengths();
+    find_by(cells, request, g, parents, marks, &table)
+}
 
 // The search from (sx, sy) to (gx, gy). It leaves in the lent slices what the definition has for each vertex.
 pub fn find(
@@ -41,21 +149,6 @@ pub fn find(
     requires { ⌜ (vertices (board (now cells) width height) ≤ length (now g)) × (vertices (board (now cells) width height) ≤ length (now parents)) × (vertices (board (now cells) width height) ≤ length (now marks)) ⌝ }
     ensures { λ r. ⌜ Searched (problem (board (now (cells .entry)) width height) sx sy gx gy) (now (g .entry)) (now (parents .entry)) (now (marks .entry)) (now (g .exit)) (now (parents .exit)) (now (marks .exit)) (r .found) (r .expansions) (r .tests) ⌝ }
 {
-    let none = (width + 1) * (height + 1);
-    let start = number_of(width, sx, sy);
-    begin(none, start, g, parents, marks);
-    // The number of vertices stands for no vertex.
-    let mut champions = [none as Vertex; ENTRIES];
-    let mut keys = [NO_KEY; ENTRIES];
-    let mut margins = [width as u32 + 1; MARGINS];
-    let mut table = [0u32; SQUARES];
-    let f = units_between(sx, sy, gx, gy, &mut table);
-    // The start is the champion of its row and of its block.
-    champions[sy] = start;
-    keys[sy] = f;
-    champions[LINE + sy / BLOCK] = start;
-    keys[LINE + sy / BLOCK] = f;
-    leave_out(sy, sx, width - sx, &mut margins);
     let request = Request {
         width,
         height,
@@ -64,17 +157,13 @@ pub fn find(
         gx,
         gy,
     };
-    run(
-        cells,
-        request,
-        g,
-        parents,
-        marks,
-        &mut champions,
-        &mut keys,
-        &mut margins,
-        &mut table,
-    )
+    if (width <= SMALL_SIDE) & (height <= SMALL_SIDE) {
+        return find_small(cells, request, g, parents, marks);
+    }
+    if (width <= MIDDLE_SIDE) & (height <= MIDDLE_SIDE) {
+        return find_middle(cells, request, g, parents, marks);
+    }
+    find_large(cells, request, g, parents, marks)
 }
 
 // How many vertices the path to the goal has, by the parents.

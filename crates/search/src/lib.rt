@@ -1,7 +1,5 @@
 // Basic Theta* on a board: the search, and its path read back from the parents.
 pub mod inner;
-mod lengths;
-mod open;
 mod round;
 mod turns;
 

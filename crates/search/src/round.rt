@@ -4,21 +4,18 @@ ghost use mathlib.Core.Bool.{cond};
 ghost use Prim.Native.Nat.{_+_, _^_, _≤_, _<_, min};
 ghost use Rattle.board.specs.Limits.{mostVertices};
 ghost use Rattle.sight.specs.Sight.{sees};
-ghost use Rattle.search.specs.Request.{boardOf, asked, sizeOf, Asked, Placed};
-ghost use Rattle.search.specs.Lengths.{Known};
-ghost use Rattle.search.specs.Round.{Taken, Beside, Arrays, Settling, Settled, Looked, Rounded};
+ghost use Rattle.search.specs.Request.{boardOf, asked, sizeOf, diagonal, Asked, Placed};
+ghost use Rattle.table.specs.Lengths.{Known};
+ghost use Rattle.search.specs.Round.{Taken, Beside, ListedFor, Settling, Settled};
+ghost use Rattle.theta.specs.Lent.{Looked, Rounded};
 use crate::Request;
 use crate::Spot;
-use crate::lengths::SQUARES;
-use crate::lengths::units_between;
-use crate::open::ENTRIES;
-use crate::open::MARGINS;
-use crate::open::leave_out;
-use crate::open::stand;
 use board::Vertex;
 use board::inner::line_before;
+use open::list::open_vertex;
 use sight::inner::sees;
 use sight::inner::sees_neighbour;
+use table::units_between;
 
 // The parent that the neighbour w would get, by one sight test: the taken vertex's parent if it sees w, else u itself.
 fn candidate(cells: &[u8], request: Request, u: Spot, parent: Spot, w: Spot) -> Spot
@@ -41,8 +38,7 @@ fn candidate(cells: &[u8], request: Request, u: Spot, parent: Spot, w: Spot) -> 
     }
 }
 
-// The vertex w opens, or its g falls: it gets the g `own` and this parent, and stands against the champions of its row and
-// its block.
+// The vertex w opens, or its g falls: it gets the g `own` and this parent, and enters the open list.
 fn settle(
     request: Request,
     w: Spot,
@@ -51,24 +47,32 @@ fn settle(
     g: &mut [u64],
     parents: &mut [Vertex],
     marks: &mut [u8],
-    champions: &mut [Vertex; ENTRIES],
-    keys: &mut [u64; ENTRIES],
-    margins: &mut [u32; MARGINS],
-    table: &mut [u32; SQUARES],
+    leads: &mut [Vertex],
+    keys: &mut [u64],
+    table: &[u32],
 )
-    requires { ⌜ Settling request w parent own (now g) (now parents) (now marks) (now champions) (now margins) ⌝ }
-    requires { ⌜ Known (now table) ⌝ }
-    ensures { λ r. ⌜ Settled request w parent own (now (g .entry)) (now (parents .entry)) (now (marks .entry)) (now (champions .entry)) (now (keys .entry)) (now (margins .entry)) (now (g .exit)) (now (parents .exit)) (now (marks .exit)) (now (champions .exit)) (now (keys .exit)) (now (margins .exit)) ⌝ }
-    ensures { λ r. ⌜ Known (now (table .exit)) ⌝ }
+    requires { ⌜ Settling request w parent own (now g) (now parents) (now marks) ⌝ }
+    requires { ⌜ ListedFor request (now g) (now marks) (now leads) (now keys) ⌝ }
+    requires { ⌜ Known (diagonal request) (now table) ⌝ }
+    ensures { λ r. ⌜ Settled request w parent own (now (g .entry)) (now (parents .entry)) (now (marks .entry)) (now (g .exit)) (now (parents .exit)) (now (marks .exit)) (now (leads .exit)) (now (keys .exit)) ⌝ }
 {
     let v = w.number;
-    let f = own + units_between(w.x, w.y, request.gx, request.gy, table);
-    let none = (request.width + 1) * (request.height + 1);
-    stand(none, w.y, v, own, f, g, champions, keys);
-    leave_out(w.y, w.x, request.width - w.x, margins);
-    g[v] = own;
+    open_vertex(
+        request.width,
+        request.height,
+        w.x,
+        w.y,
+        request.gx,
+        request.gy,
+        v,
+        own,
+        g,
+        marks,
+        leads,
+        keys,
+        table,
+    );
     parents[v] = parent as Vertex;
-    marks[v] = 1;
 }
 
 // The vertex w beside u is looked at, if it is a visible neighbour that is not yet expanded. The sight tests so far go in and
@@ -83,17 +87,17 @@ fn look(
     g: &mut [u64],
     parents: &mut [Vertex],
     marks: &mut [u8],
-    champions: &mut [Vertex; ENTRIES],
-    keys: &mut [u64; ENTRIES],
-    margins: &mut [u32; MARGINS],
-    table: &mut [u32; SQUARES],
+    leads: &mut [Vertex],
+    keys: &mut [u64],
+    table: &[u32],
 ) -> u64
     requires { ⌜ Taken (now cells) request u parent (now g) (now parents) (now marks) ⌝ }
     requires { ⌜ Beside (now cells) request u w ⌝ }
     requires { ⌜ tests < 2 ^ 63 ⌝ }
-    requires { ⌜ Arrays (now cells) request (now g) (now marks) (now champions) (now keys) (now margins) (now table) ⌝ }
+    requires { ⌜ ListedFor request (now g) (now marks) (now leads) (now keys) ⌝ }
+    requires { ⌜ Known (diagonal request) (now table) ⌝ }
     ensures { λ r. ⌜ Looked (asked (now (cells .entry)) request) (u .number) (w .number) (now (g .entry)) (now (parents .entry)) (now (marks .entry)) tests (now (g .exit)) (now (parents .exit)) (now (marks .exit)) r ⌝ }
-    ensures { λ r. ⌜ Arrays (now (cells .entry)) request (now (g .exit)) (now (marks .exit)) (now (champions .exit)) (now (keys .exit)) (now (margins .exit)) (now (table .exit)) ⌝ }
+    ensures { λ r. ⌜ ListedFor request (now (g .exit)) (now (marks .exit)) (now (leads .exit)) (now (keys .exit)) ⌝ }
 {
     let v = w.number;
     let mark = marks[v];
@@ -108,19 +112,7 @@ fn look(
     let own = g[c] + units_between(from.x, from.y, w.x, w.y, table);
     let old = g[v];
     if (mark == 0) | (own < old) {
-        settle(
-            request,
-            w,
-            c,
-            own,
-            g,
-            parents,
-            marks,
-            champions,
-            keys,
-            margins,
-            table,
-        );
+        settle(request, w, c, own, g, parents, marks, leads, keys, table);
     }
     tests + 1
 }
@@ -143,16 +135,16 @@ pub fn round(
     g: &mut [u64],
     parents: &mut [Vertex],
     marks: &mut [u8],
-    champions: &mut [Vertex; ENTRIES],
-    keys: &mut [u64; ENTRIES],
-    margins: &mut [u32; MARGINS],
-    table: &mut [u32; SQUARES],
+    leads: &mut [Vertex],
+    keys: &mut [u64],
+    table: &[u32],
 ) -> u64
     requires { ⌜ Taken (now cells) request u parent (now g) (now parents) (now marks) ⌝ }
     requires { ⌜ tests < 2 ^ 62 ⌝ }
-    requires { ⌜ Arrays (now cells) request (now g) (now marks) (now champions) (now keys) (now margins) (now table) ⌝ }
+    requires { ⌜ ListedFor request (now g) (now marks) (now leads) (now keys) ⌝ }
+    requires { ⌜ Known (diagonal request) (now table) ⌝ }
     ensures { λ r. ⌜ Rounded (asked (now (cells .entry)) request) (u .number) (sizeOf request) (now (g .entry)) (now (parents .entry)) (now (marks .entry)) tests (now (g .exit)) (now (parents .exit)) (now (marks .exit)) r ⌝ }
-    ensures { λ r. ⌜ Arrays (now (cells .entry)) request (now (g .exit)) (now (marks .exit)) (now (champions .exit)) (now (keys .exit)) (now (margins .exit)) (now (table .exit)) ⌝ }
+    ensures { λ r. ⌜ ListedFor request (now (g .exit)) (now (marks .exit)) (now (leads .exit)) (now (keys .exit)) ⌝ }
 {
     let wide = request.width + 1;
     let left = line_before(u.x);
@@ -179,9 +171,8 @@ pub fn round(
                 g,
                 parents,
                 marks,
-                champions,
+                leads,
                 keys,
-                margins,
                 table,
             );
             x += 1;

@@ -1,51 +1,78 @@
 // The turns of the search: each takes the first open vertex, until that is the goal or nothing is open.
 ghost use mathlib.Core.Path.{_≡_};
+ghost use mathlib.Core.List.{_++_};
 ghost use Prim.Native.Nat.{suc, _^_, _≤_, _<_};
-ghost use lib.ListN.{length, set};
-ghost use Rattle.board.specs.Limits.{side, mostVertices};
+ghost use lib.ListN.{length, set, replicate, drop};
+ghost use Rattle.board.specs.Limits.{largestSide, mostVertices};
 ghost use Rattle.board.specs.Board.{columnOf, rowOf};
 ghost use Rattle.reach.specs.Turns.{turns};
-ghost use Rattle.search.specs.Search.{basic};
-ghost use Rattle.search.specs.Request.{asked, sizeOf, Asked};
-ghost use Rattle.search.specs.Begun.{Begun, Begins};
-ghost use Rattle.search.specs.Round.{state, Taking, Rounded, Arrays};
+ghost use Rattle.table.specs.Lengths.{Known};
+ghost use Rattle.theta.specs.Search.{basic};
+ghost use Rattle.search.specs.Request.{asked, sizeOf, diagonal, Asked};
+ghost use Rattle.theta.specs.Lent.{Begun, Begins, state, Rounded};
+ghost use Rattle.search.specs.Turns.{Cleared, Taking};
+ghost use Rattle.search.specs.Round.{ListedFor};
 use crate::Outcome;
 use crate::Request;
 use crate::Spot;
-use crate::lengths::SQUARES;
-use crate::open::BLOCK;
-use crate::open::ENTRIES;
-use crate::open::MARGINS;
-use crate::open::pick;
-use crate::open::renew_block;
-use crate::open::rescan;
 use crate::round::round;
-use board::LINE;
 use board::Vertex;
 use board::inner::column_of;
 use board::inner::number_of;
 use board::inner::row_of;
+use open::list::close_vertex;
+use open::tree::NO_KEY;
+use open::tree::first;
 
-// The start alone is seen, and open; what lies beyond the n vertices is kept.
-pub fn begin(n: usize, start: Vertex, g: &mut [u64], parents: &mut [Vertex], marks: &mut [u8])
-    requires { ⌜ (start < n) × (n ≤ mostVertices) ⌝ }
-    requires { ⌜ (n ≤ length (now g)) × (n ≤ length (now parents)) × (n ≤ length (now marks)) ⌝ }
-    ensures { λ r. ⌜ Begun n start (now (g .entry)) (now (parents .entry)) (now (marks .entry)) (now (g .exit)) (now (parents .exit)) (now (marks .exit)) ⌝ }
+// Zeros for the first n of each; what lies beyond is kept. A loop for each slice, since slices may overlap as far as the compiler knows.
+fn clear_g(n: usize, g: &mut [u64])
+    requires { ⌜ (n ≤ length (now g)) × (n ≤ mostVertices) ⌝ }
+    ensures { λ r. ⌜ now (g .exit) ≡ replicate n 0 ++ drop n (now (g .entry)) ⌝ }
 {
     let mut v = 0;
     while v < n {
         g[v] = 0;
+        v += 1;
+    }
+}
+
+fn clear_parents(n: usize, parents: &mut [Vertex])
+    requires { ⌜ (n ≤ length (now parents)) × (n ≤ mostVertices) ⌝ }
+    ensures { λ r. ⌜ now (parents .exit) ≡ replicate n 0 ++ drop n (now (parents .entry)) ⌝ }
+{
+    let mut v = 0;
+    while v < n {
         parents[v] = 0;
+        v += 1;
+    }
+}
+
+fn clear_marks(n: usize, marks: &mut [u8])
+    requires { ⌜ n ≤ length (now marks) ⌝ }
+    ensures { λ r. ⌜ now (marks .exit) ≡ replicate n 0 ++ drop n (now (marks .entry)) ⌝ }
+{
+    let mut v = 0;
+    while v < n {
         marks[v] = 0;
         v += 1;
     }
+}
+
+// No vertex is seen, and the start has itself as parent; what lies beyond the n vertices is kept.
+pub fn begin(n: usize, start: Vertex, g: &mut [u64], parents: &mut [Vertex], marks: &mut [u8])
+    requires { ⌜ (start < n) × (n ≤ mostVertices) ⌝ }
+    requires { ⌜ (n ≤ length (now g)) × (n ≤ length (now parents)) × (n ≤ length (now marks)) ⌝ }
+    ensures { λ r. ⌜ Cleared n start (now (g .entry)) (now (parents .entry)) (now (marks .entry)) (now (g .exit)) (now (parents .exit)) (now (marks .exit)) ⌝ }
+{
+    clear_g(n, g);
+    clear_parents(n, parents);
+    clear_marks(n, marks);
     parents[start as usize] = start;
-    marks[start as usize] = 1;
 }
 
 // The place of a vertex, by its number. The only divisions by a number that is not known beforehand are here.
 fn spot_of(width: usize, v: Vertex) -> Spot
-    requires { ⌜ width ≤ side ⌝ }
+    requires { ⌜ width ≤ largestSide ⌝ }
     ensures { λ r. ⌜ (r .x ≡ columnOf width v) × (r .y ≡ rowOf width v) × (r .number ≡ v) ⌝ }
 {
     Spot {
@@ -55,7 +82,7 @@ fn spot_of(width: usize, v: Vertex) -> Spot
     }
 }
 
-// The vertex v is expanded: it leaves the open vertices of its row and its block, and its neighbours are looked at.
+// The vertex v is expanded: it leaves the open list, and its neighbours are looked at.
 // The sight tests so far go in and come out.
 fn expand(
     cells: &[u8],
@@ -65,24 +92,34 @@ fn expand(
     g: &mut [u64],
     parents: &mut [Vertex],
     marks: &mut [u8],
-    champions: &mut [Vertex; ENTRIES],
-    keys: &mut [u64; ENTRIES],
-    margins: &mut [u32; MARGINS],
-    table: &mut [u32; SQUARES],
+    leads: &mut [Vertex],
+    keys: &mut [u64],
+    table: &[u32],
 ) -> u64
     requires { ⌜ Asked (now cells) request ⌝ }
     requires { ⌜ Taking (now cells) request v (now g) (now parents) (now marks) ⌝ }
     requires { ⌜ tests < 2 ^ 62 ⌝ }
-    requires { ⌜ Arrays (now cells) request (now g) (now marks) (now champions) (now keys) (now margins) (now table) ⌝ }
+    requires { ⌜ ListedFor request (now g) (now marks) (now leads) (now keys) ⌝ }
+    requires { ⌜ Known (diagonal request) (now table) ⌝ }
     ensures { λ r. ⌜ Rounded (asked (now (cells .entry)) request) v (sizeOf request) (now (g .entry)) (now (parents .entry)) (set (now (marks .entry)) v 2) tests (now (g .exit)) (now (parents .exit)) (now (marks .exit)) r ⌝ }
-    ensures { λ r. ⌜ Arrays (now (cells .entry)) request (now (g .exit)) (now (marks .exit)) (now (champions .exit)) (now (keys .exit)) (now (margins .exit)) (now (table .exit)) ⌝ }
+    ensures { λ r. ⌜ ListedFor request (now (g .exit)) (now (marks .exit)) (now (leads .exit)) (now (keys .exit)) ⌝ }
 {
     let u = spot_of(request.width, v as Vertex);
     let parent = spot_of(request.width, parents[v]);
-    marks[v] = 2;
-    rescan(request, u.y, g, marks, champions, keys, margins, table);
-    let none = (request.width + 1) * (request.height + 1);
-    renew_block(none, request.height + 1, u.y / BLOCK, g, champions, keys);
+    close_vertex(
+        request.width,
+        request.height,
+        u.x,
+        u.y,
+        request.gx,
+        request.gy,
+        v,
+        g,
+        marks,
+        leads,
+        keys,
+        table,
+    );
     round(
         cells,
         request,
@@ -92,9 +129,8 @@ fn expand(
         g,
         parents,
         marks,
-        champions,
+        leads,
         keys,
-        margins,
         table,
     )
 }
@@ -106,27 +142,25 @@ pub fn run(
     g: &mut [u64],
     parents: &mut [Vertex],
     marks: &mut [u8],
-    champions: &mut [Vertex; ENTRIES],
-    keys: &mut [u64; ENTRIES],
-    margins: &mut [u32; MARGINS],
-    table: &mut [u32; SQUARES],
+    leads: &mut [Vertex],
+    keys: &mut [u64],
+    table: &[u32],
 ) -> Outcome
     requires { ⌜ Asked (now cells) request ⌝ }
     requires { ⌜ Begins (asked (now cells) request) (state (now g) (now parents) (now marks) 0 0) ⌝ }
-    requires { ⌜ Arrays (now cells) request (now g) (now marks) (now champions) (now keys) (now margins) (now table) ⌝ }
+    requires { ⌜ ListedFor request (now g) (now marks) (now leads) (now keys) ⌝ }
+    requires { ⌜ Known (diagonal request) (now table) ⌝ }
     ensures { λ r. ⌜ turns (basic (asked (now (cells .entry)) request)) (suc (sizeOf request)) (state (now (g .entry)) (now (parents .entry)) (now (marks .entry)) 0 0) ≡ record { found = r .found; state = state (now (g .exit)) (now (parents .exit)) (now (marks .exit)) (r .expansions) (r .tests) } ⌝ }
 {
-    let none = (request.width + 1) * (request.height + 1);
     let goal = number_of(request.width, request.gx, request.gy) as usize;
-    let end = LINE + request.height / BLOCK + 1;
     let mut expansions: u64 = 0;
     let mut tests: u64 = 0;
     let found = 'turns: loop {
-        let leader = pick(none, LINE, end, g, champions, keys);
-        let v = leader.vertex;
-        if v == none {
+        let leader = first(leads, keys);
+        if leader.f == NO_KEY {
             break 'turns false;
         }
+        let v = leader.vertex;
         if v == goal {
             break 'turns true;
         }
@@ -139,9 +173,8 @@ pub fn run(
             g,
             parents,
             marks,
-            champions,
+            leads,
             keys,
-            margins,
             table,
         );
     };

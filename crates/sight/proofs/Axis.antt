@@ -1,9 +1,7 @@
 -- One axis of a leg: its vertices and cells in steps from a towards b. Assumes nothing.
-use Prim.Native.Nat.{ℕ, _+_, _*_, _-_, _≤_, _<_, min, max}
-use mathlib.Core.Path.{_≡_, ap}
+use Prim.Native.Nat.{ℕ, _+_, _-_, _≤_, _<_, min, max}
+use mathlib.Core.Path.{_≡_}
 use mathlib.Core.Logic.{⊎-elim}
-use mathlib.Core.Bool.{cond}
-use lib.Dec.{ltb}
 use native.Mathlib.Omega.{arith}
 use borrow.Author.Tests.{lt-ltb, le-ltb}
 use Rattle.laws.proofs.Tests.{order}
@@ -18,11 +16,11 @@ module _ (a b s : ℕ) where
   unfolding cellAt
   cell-down h = rw (le-ltb a b h)
 
-  vertex-up : a < b → vertexAt a b s ≡ a + s
+  pub vertex-up : a < b → vertexAt a b s ≡ a + s
   unfolding vertexAt
   vertex-up h = rw (lt-ltb a b h)
 
-  vertex-down : b ≤ a → vertexAt a b s ≡ a - s
+  pub vertex-down : b ≤ a → vertexAt a b s ≡ a - s
   unfolding vertexAt
   vertex-down h = rw (le-ltb a b h)
 
@@ -30,7 +28,7 @@ module _ (a b s : ℕ) where
   vertex-start e =
       ⊎-elim (λ (l : a < b). omega (arith, vertex-up l)) (λ (g : b ≤ a). omega (arith, vertex-down g)) (order a b)
 
-  vertex-end : s ≡ far a b → vertexAt a b s ≡ b
+  pub vertex-end : s ≡ far a b → vertexAt a b s ≡ b
   vertex-end e =
       ⊎-elim (λ (l : a < b). omega (arith, vertex-up l)) (λ (g : b ≤ a). omega (arith, vertex-down g)) (order a b)
 
@@ -82,52 +80,3 @@ pub axis-of : (a b i : ℕ) → min a b < i + 1 → i < max a b → (s : ℕ) ×
 axis-of a b i h k =
     ⊎-elim (λ (l : a < b). (i - a, omega arith, omega (arith, cell-up a b (i - a) l)))
     (λ (g : b ≤ a). (a - (i + 1), omega arith, omega (arith, cell-down a b (a - (i + 1)) g))) (order a b)
-
--- ---- steps in a list where neighbours lie `stride` apart
-
--- what a step from a towards b adds to the place; `forward b a` is taken away
-unfoldable pub forward : (a b stride : ℕ) → ℕ
-forward a b stride = cond (ltb a b) stride 0
-
-module _ (a b stride : ℕ) where
-  forward-up : a < b → (forward a b stride ≡ stride) × (forward b a stride ≡ 0)
-  unfolding forward
-  forward-up h = (rw (lt-ltb a b h), rw (le-ltb b a (omega arith)))
-
-  forward-down : b < a → (forward a b stride ≡ 0) × (forward b a stride ≡ stride)
-  unfolding forward
-  forward-down h = (rw (le-ltb a b (omega arith)), rw (lt-ltb b a h))
-
-  pub forward-most : forward a b stride ≤ stride
-  unfolding forward
-  forward-most = ⊎-elim (λ (l : a < b). rw (lt-ltb a b l) (omega arith)) (λ (g : b ≤ a). rw (le-ltb a b g) (omega arith)) (order a b)
-
-  -- from a vertex to the next one
-  vertex-step : (s : ℕ) → s < far a b → vertexAt a b (s + 1) * stride + forward b a stride ≡ vertexAt a b s * stride + forward a b stride
-  vertex-step s h =
-      ⊎-elim
-      (λ (l : a < b). rw (vertex-up a b s l, vertex-up a b (s + 1) l, forward-up l .0, forward-up l .1) (omega arith))
-      (λ (g : b ≤ a).
-      let z : a - s ≡ (a - (s + 1)) + 1 = omega arith in
-      rw (vertex-down a b s g, vertex-down a b (s + 1) g, forward-down (omega arith) .0, forward-down (omega arith) .1, z) (omega arith)) (order a b)
-
-  -- from a vertex to the cell ahead of it
-  pub cell-step : (s : ℕ) → s < far a b → cellAt a b s * stride + forward b a stride ≡ vertexAt a b s * stride
-  cell-step s h =
-      ⊎-elim
-      (λ (l : a < b). rw (vertex-up a b s l, cell-up a b s l, forward-up l .1) (omega arith))
-      (λ (g : b ≤ a).
-      let z : a - s ≡ (a - (s + 1)) + 1 = omega arith in
-      rw (vertex-down a b s g, cell-down a b s g, forward-down (omega arith) .1, z) (omega arith)) (order a b)
-
-  -- and from that cell to the next one
-  pub cell-next : (s : ℕ) → s + 1 < far a b → cellAt a b (s + 1) * stride + forward b a stride ≡ cellAt a b s * stride + forward a b stride
-  cell-next s h =
-      let l : s < far a b = omega arith in
-      omega (arith, vertex-step s l, cell-step s l, cell-step (s + 1) h)
-
-  -- and from the last one to the end
-  pub cell-end : (s : ℕ) → s + 1 ≡ far a b → cellAt a b s * stride + forward a b stride ≡ b * stride
-  cell-end s e =
-      let l : s < far a b = omega arith in
-      omega (arith, vertex-step s l, cell-step s l, ap (λ (z : ℕ). z * stride) (vertex-end a b (s + 1) e))

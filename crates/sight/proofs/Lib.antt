@@ -3,11 +3,9 @@ pub mod Axis
 pub mod Sides
 pub mod Crossing
 pub mod First
-pub mod Walking
-pub mod Beside
-pub mod Edging
 pub mod Seen
 pub mod Symmetric
-pub mod Steps
+pub mod Neighbours
 pub mod Visible
 pub mod Determined
+pub mod Answering

@@ -4,7 +4,7 @@ use mathlib.Core.Path.{_≡_, refl, sym, _∙_, subst, subst₂}
 use mathlib.Core.Logic.{_⊎_, inl, inr, ⊎-elim}
 use mathlib.Core.Bool.{Bool, true, false, not, _&&_, and-true, false≢true}
 use native.Mathlib.Omega.{arith}
-use borrow.Author.Tests.{lt-ltb, le-leb, ltb-true, leb-true, eqb-true, eq-eqb, not-true}
+use borrow.Author.Tests.{lt-ltb, le-leb, ltb-true, leb-true, eqb-true, eq-eqb, ne-eqb, not-true}
 use lib.Dec.{ltb, leb, eqb}
 use Rattle.laws.specs.Below.{every}
 use Rattle.laws.proofs.Below.{every-at, every-of}
@@ -12,8 +12,9 @@ use Rattle.laws.proofs.Tests.{and-both, and-left, and-right, not-both, same-tes
 use Rattle.board.specs.Board.{Board, blocked}
 use Rattle.sight.specs.declared.Stop.the-variants.{Cell}
 use Rattle.sight.specs.Sight.{crossed, rowWall, columnWall, between, cellsFree, edgesOpen, sees}
-use Rattle.sight.specs.Leg.{Ends, far, cellAt, vertexAt}
+use Rattle.sight.specs.Leg.{far, cellAt, vertexAt}
 use Rattle.sight.specs.Stops.{isClear, cellStop, columnStop, cellsStop, walled, edgeFrom, edgeStop, edgesStop, firstStop}
+use Rattle.sight.specs.Inner.{EndsOn}
 use Rattle.sight.proofs.Axis.{axis-spans, axis-on, axis-of}
 use Rattle.sight.proofs.Crossing.{cross-placed}
 use Rattle.sight.proofs.First.{first-every, cond-clear, edge-stops}
@@ -35,6 +36,21 @@ module _ (b : Board) where
       let i : ℕ = cellAt ax bx u in
       let j : ℕ = cellAt ay by v in
       cond-clear (crossed ax ay bx by i j && blocked b i j) (Cell i j) refl))
+
+-- ---- the first stop in each direction
+
+module _ (b : Board) (ax ay bx by : ℕ) where
+  pub level-stop : ay ≡ by → firstStop b ax ay bx by ≡ edgesStop b true ay ax bx
+  unfolding firstStop
+  level-stop e = rw (eq-eqb ay by e)
+
+  pub upright-stop : (ay ≡ by → ⊥) → ax ≡ bx → firstStop b ax ay bx by ≡ edgesStop b false ax ay by
+  unfolding firstStop
+  upright-stop n e = rw (ne-eqb ay by n, eq-eqb ax bx e)
+
+  pub slanted-stop : (ay ≡ by → ⊥) → (ax ≡ bx → ⊥) → firstStop b ax ay bx by ≡ cellsStop b ax ay bx by
+  unfolding firstStop
+  slanted-stop n m = rw (ne-eqb ay by n, ne-eqb ax bx m)
 
 -- ---- along one axis: the edges between p and q, and the steps from p
 
@@ -78,7 +94,7 @@ axis-free b ax ay bx by z =
     let o = cross-placed ax ay bx by i j (and-left (crossed ax ay bx by i j) (blocked b i j) q) in
     ⊎-elim (λ (e : ax ≡ bx). omega (arith, o .0 .1)) (λ (e : ay ≡ by). omega (arith, o .1 .1)) z)))
 
-module _ (b : Board) (ax ay bx by : ℕ) (on : Ends b ax ay bx by) where
+module _ (b : Board) (ax ay bx by : ℕ) (on : EndsOn b ax ay bx by) where
   cells-same : cellsFree b ax ay bx by ≡ isClear (cellsStop b ax ay bx by)
   unfolding cellsFree
   cells-same =

@@ -1,5 +1,8 @@
 pub mod Sight
+pub mod Neighbours
+pub mod Answers
 pub mod Leg
 pub mod Stops
-pub mod Neighbours
-pub mod Paper
+pub mod Walk
+pub mod Edges
+pub mod Inner

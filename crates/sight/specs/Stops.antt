@@ -1,9 +1,7 @@
 -- What stops a leg first, counted from its first end.
-use Prim.Native.Nat.{ℕ, zero, suc, _+_, _/_, _%_}
+use Prim.Native.Nat.{ℕ, zero, suc, _+_}
 use mathlib.Core.Bool.{Bool, true, false, _&&_, cond}
 use lib.Dec.{eqb}
-use lib.ListN.{length}
-use Rattle.laws.specs.Below.{firstWhere}
 use Rattle.board.specs.Board.{Board, blocked}
 use Rattle.sight.specs.declared.Stop.{Stop}
 use Rattle.sight.specs.declared.Stop.the-variants.{Clear, Cell, Edge}
@@ -41,10 +39,6 @@ columnStop b ax ay bx by u =
 unfoldable pub cellsStop : Board → (ax ay bx by : ℕ) → Stop
 cellsStop b ax ay bx by = firstOf (far ax bx) (λ (u : ℕ). columnStop b ax ay bx by u)
 
--- the stop at a cell by its index in the cells; their number stands for none
-unfoldable pub stopAt : Board → (index : ℕ) → Stop
-stopAt b index = cond (eqb index (length (b .cells))) Clear (Cell (index % b .width) (index / b .width))
-
 -- ---- a level leg lies on the row c and goes from column p to q, an upright one on the column c from row p to q
 
 -- the unit edge at k has blocked cells on both sides
@@ -66,18 +60,9 @@ edgeStop b level c p q u =
 unfoldable pub edgesStop : Board → (level : Bool) → (c p q : ℕ) → Stop
 edgesStop b level c p q = firstOf (far p q) (λ (u : ℕ). edgeStop b level c p q u)
 
--- how many unit edges come before the first with blocked cells on both sides: all of them where there is none
-unfoldable pub openEdges : Board → (level : Bool) → (c p q : ℕ) → ℕ
-openEdges b level c p q = firstWhere (far p q) (λ (u : ℕ). walled b level c (cellAt p q u))
-
--- the stop after that many: the next edge, or none at the leg's end
-unfoldable pub stopAfter : (level : Bool) → (c p q steps : ℕ) → Stop
-stopAfter level c p q steps =
-    cond (eqb steps (far p q)) Clear (edgeFrom level c (vertexAt p q steps) (vertexAt p q (steps + 1)))
-
 -- ---- any leg
 
--- what stops the leg first, counted from its first end
+-- what stops the leg first
 unfoldable pub firstStop : Board → (ax ay bx by : ℕ) → Stop
 firstStop b ax ay bx by =
     cond (eqb ay by) (edgesStop b true ay ax bx)

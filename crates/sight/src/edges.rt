@@ -2,9 +2,11 @@
 ghost use mathlib.Core.Path.{_≡_};
 ghost use mathlib.Core.Bool.{cond};
 ghost use Prim.Native.Nat.{_≤_};
-ghost use Rattle.board.specs.Board.{Sound, board};
+ghost use Rattle.board.specs.Board.{board};
+ghost use Rattle.board.specs.Inner.{Sound};
 ghost use Rattle.sight.specs.Leg.{far};
-ghost use Rattle.sight.specs.Stops.{edgeFrom, openEdges, stopAfter};
+ghost use Rattle.sight.specs.Stops.{edgeFrom};
+ghost use Rattle.sight.specs.Edges.{openEdges, stopAfter};
 use crate::Stop;
 use crate::leg;
 use crate::walls::is_walled;

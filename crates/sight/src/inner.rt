@@ -1,11 +1,12 @@
 // Calls for the crates above, which have checked their board: each says what it requires.
 ghost use mathlib.Core.Path.{_≡_};
 ghost use mathlib.Core.Bool.{true};
-ghost use Rattle.board.specs.Board.{Sound, board};
-ghost use Rattle.sight.specs.Leg.{Ends};
+ghost use Rattle.board.specs.Board.{board};
+ghost use Rattle.board.specs.Inner.{Sound};
 ghost use Rattle.sight.specs.Sight.{sees};
 ghost use Rattle.sight.specs.Stops.{firstStop};
 ghost use Rattle.sight.specs.Neighbours.{neighbours};
+ghost use Rattle.sight.specs.Inner.{EndsOn};
 use crate::Stop;
 use crate::edges::open_edges;
 use crate::edges::stop_after;
@@ -26,7 +27,7 @@ pub fn first_stop(
     by: usize,
 ) -> Stop
     requires { ⌜ Sound (board (now cells) width height) ⌝ }
-    requires { ⌜ Ends (board (now cells) width height) ax ay bx by ⌝ }
+    requires { ⌜ EndsOn (board (now cells) width height) ax ay bx by ⌝ }
     ensures { λ r. ⌜ r ≡ firstStop (board (now (cells .entry)) width height) ax ay bx by ⌝ }
 {
     if ay == by {
@@ -55,7 +56,7 @@ pub fn sees(
     by: usize,
 ) -> bool
     requires { ⌜ Sound (board (now cells) width height) ⌝ }
-    requires { ⌜ Ends (board (now cells) width height) ax ay bx by ⌝ }
+    requires { ⌜ EndsOn (board (now cells) width height) ax ay bx by ⌝ }
     ensures { λ r. ⌜ r ≡ sees (board (now (cells .entry)) width height) ax ay bx by ⌝ }
 {
     if ay == by {
@@ -78,7 +79,7 @@ pub fn sees_neighbour(
     by: usize,
 ) -> bool
     requires { ⌜ Sound (board (now cells) width height) ⌝ }
-    requires { ⌜ Ends (board (now cells) width height) ax ay bx by ⌝ }
+    requires { ⌜ EndsOn (board (now cells) width height) ax ay bx by ⌝ }
     requires { ⌜ neighbours ax ay bx by ≡ true ⌝ }
     ensures { λ r. ⌜ r ≡ sees (board (now (cells .entry)) width height) ax ay bx by ⌝ }
 {

@@ -1,7 +1,5 @@
 // A leg in steps from its first end, on one axis from a to b.
 ghost use mathlib.Core.Path.{_≡_};
-ghost use mathlib.Core.Bool.{cond};
-ghost use lib.Dec.{ltb};
 ghost use Prim.Native.Nat.{_≤_, _<_, min};
 ghost use Rattle.sight.specs.Leg.{far, vertexAt, cellAt};
 
@@ -33,11 +31,4 @@ pub fn lesser(a: usize, b: usize) -> usize
     ensures { λ r. ⌜ r ≡ min a b ⌝ }
 {
     if a < b { a } else { b }
-}
-
-// What a step from a towards b adds to an index where neighbours lie `stride` apart; `forward(b, a, stride)` is taken away.
-pub fn forward(a: usize, b: usize, stride: usize) -> usize
-    ensures { λ r. ⌜ r ≡ cond (ltb a b) stride 0 ⌝ }
-{
-    if a < b { stride } else { 0 }
 }

@@ -1,8 +1,9 @@
 // Line of sight between two vertices of a board.
 ghost use mathlib.Core.Path.{_≡_};
 ghost use Rattle.board.specs.Board.{board};
-ghost use Rattle.sight.specs.Paper.{handed, sightRow};
+ghost use Rattle.sight.specs.Answers.{handedSight, sightRow};
 use board::Checked;
+use board::Refusal;
 use board::check_leg;
 
 mod edges;
@@ -22,11 +23,7 @@ pub enum Stop {
 pub enum Answer {
     Yes,
     No,
-    Side,
-    Count,
-    Byte(usize),
-    First,
-    Second,
+    Refused(Refusal),
 }
 
 // Whether the leg from (ax, ay) to (bx, by) has sight, for any board and any two vertices.
@@ -39,14 +36,10 @@ pub fn sight(
     bx: usize,
     by: usize,
 ) -> Answer
-    ensures { λ r. ⌜ handed r ≡ sightRow (board (now (cells .entry)) width height) ax ay bx by ⌝ }
+    ensures { λ r. ⌜ handedSight r ≡ sightRow (board (now (cells .entry)) width height) ax ay bx by ⌝ }
 {
     match check_leg(cells, width, height, ax, ay, bx, by) {
-        Checked::Side => Answer::Side,
-        Checked::Count => Answer::Count,
-        Checked::Byte(at) => Answer::Byte(at),
-        Checked::First => Answer::First,
-        Checked::Second => Answer::Second,
+        Checked::Refused(why) => Answer::Refused(why),
         Checked::Accepted => {
             if inner::sees(cells, width, height, ax, ay, bx, by) {
                 Answer::Yes

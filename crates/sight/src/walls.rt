@@ -2,7 +2,8 @@
 ghost use mathlib.Core.Path.{_≡_};
 ghost use mathlib.Core.Bool.{cond};
 ghost use Prim.Native.Nat.{_-_, _≤_, _<_, min};
-ghost use Rattle.board.specs.Board.{Sound, board};
+ghost use Rattle.board.specs.Board.{board};
+ghost use Rattle.board.specs.Inner.{Sound};
 ghost use Rattle.sight.specs.Sight.{rowWall, columnWall};
 ghost use Rattle.sight.specs.Stops.{walled};
 use board::inner::is_cell_blocked;

@@ -4,28 +4,29 @@ use mathlib.Core.Path.{_≡_}
 use mathlib.Core.Bool.{Bool, true, false}
 use mathlib.Core.List.{List, [], _∷_}
 use lib.IntN.{ℤ, pos, negsuc}
+use lib.ListN.{replicate}
 use Rattle.board.specs.Limits.{mostVertices}
 use Rattle.board.specs.Board.{Board, board}
-use Rattle.board.specs.Paper.{Handed}
+use Rattle.board.specs.Handed.{Handed}
 use Rattle.length.specs.Units.{units}
 use Rattle.sight.specs.Sight.{sees}
-use Rattle.router.specs.Paper.{Lent, routeRow, found, none}
+use Rattle.router.specs.Answers.{Route, Slices, slices, routeRow, found, none}
 
 -- a question and its answer
 pub data Row : Type 0 where
-  length : (dx dy : ℤ) → (answer : ℕ) → Row
-  sight : (b : Board) → (ax ay bx by : ℕ) → (answer : Bool) → Row
-  route : (b : Board) → (sx sy gx gy : ℕ) → (answer : Handed) → Row
+  lengthOf : (dx dy : ℤ) → (answer : ℕ) → Row
+  sightOf : (b : Board) → (ax ay bx by : ℕ) → (answer : Bool) → Row
+  routeOf : (b : Board) → (sx sy gx gy : ℕ) → (answer : Handed Route) → Row
 
 -- lent slices with an entry for each vertex of the largest board
-abbrev pub enough : Lent
-enough = record { g = mostVertices; parents = mostVertices; marks = mostVertices; path = mostVertices }
+abbrev pub enough : Slices
+enough = let l : List ℕ = replicate mostVertices 0 in slices l l l l
 
 -- the definitions answer the question so
 abbrev pub Holds : Row → Type 0
-Holds (length dx dy answer) = units dx dy ≡ answer
-Holds (sight b ax ay bx by answer) = sees b ax ay bx by ≡ answer
-Holds (route b sx sy gx gy answer) = routeRow b sx sy gx gy enough ≡ answer
+Holds (lengthOf dx dy answer) = units dx dy ≡ answer
+Holds (sightOf b ax ay bx by answer) = sees b ax ay bx by ≡ answer
+Holds (routeOf b sx sy gx gy answer) = routeRow b sx sy gx gy enough ≡ answer
 
 abbrev pub AllHold : List Row → Type 0
 AllHold [] = Unit {0}
@@ -49,16 +50,16 @@ gate = board (0 ∷ 1 ∷ 0 ∷ []) 3 1
 -- units, vertices, expanded and tests of a path; expanded and tests without one
 abbrev pub table : List Row
 table =
-    length (pos 0) (pos 0) 0
-    ∷ length (pos 1) (pos 1) 1482910
-    ∷ length (negsuc 0) (pos 2) 2344687
-    ∷ length (pos 3) (negsuc 3) 5242880
-    ∷ sight corner 0 0 2 1 false
-    ∷ sight corner 0 0 2 2 true
-    ∷ sight corner 1 0 1 1 true
-    ∷ sight corner 1 0 2 0 false
-    ∷ route free 0 0 1 1 (found 1482910 2 1 3)
-    ∷ route full 0 0 1 1 (none 1 0)
-    ∷ route full 0 0 0 0 (found 0 1 0 0)
-    ∷ route gate 0 0 3 0 (none 4 6)
+    lengthOf (pos 0) (pos 0) 0
+    ∷ lengthOf (pos 1) (pos 1) 1482910
+    ∷ lengthOf (negsuc 0) (pos 2) 2344687
+    ∷ lengthOf (pos 3) (negsuc 3) 5242880
+    ∷ sightOf corner 0 0 2 1 false
+    ∷ sightOf corner 0 0 2 2 true
+    ∷ sightOf corner 1 0 1 1 true
+    ∷ sightOf corner 1 0 2 0 false
+    ∷ routeOf free 0 0 1 1 (found 1482910 2 1 3)
+    ∷ routeOf full 0 0 1 1 (none 1 0)
+    ∷ routeOf full 0 0 0 0 (found 0 1 0 0)
+    ∷ routeOf gate 0 0 3 0 (none 4 6)
     ∷ []

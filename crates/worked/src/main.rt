@@ -21,8 +21,7 @@ fn length_row(question: &[u8], dx: i32, dy: i32) {
             io::print_decimal(1, l.units);
             io::write_all(1, b"\n");
         }
-        Measured::First => refused(4),
-        Measured::Second => refused(5),
+        Measured::Refused(why) => refused(why.number()),
     }
 }
 
@@ -36,11 +35,7 @@ fn sight_row(question: &[u8], cells: &[u8], ax: usize, ay: usize, bx: usize, by:
         Answer::No => {
             io::write_all(1, b"no\n");
         }
-        Answer::Side => refused(1),
-        Answer::Count => refused(2),
-        Answer::Byte(_) => refused(3),
-        Answer::First => refused(4),
-        Answer::Second => refused(5),
+        Answer::Refused(why) => refused(why.number()),
     }
 }
 
@@ -86,11 +81,7 @@ fn route_row(
             numbers(b"none, ", expansions, b", ", tests);
             io::write_all(1, b"\n");
         }
-        router::Answer::Side => refused(1),
-        router::Answer::Count => refused(2),
-        router::Answer::Byte(_) => refused(3),
-        router::Answer::First => refused(4),
-        router::Answer::Second => refused(5),
+        router::Answer::Refused(why) => refused(why.number()),
         router::Answer::Work => refused(6),
         router::Answer::Short(_) => refused(7),
     }

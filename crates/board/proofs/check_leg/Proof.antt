@@ -1,12 +1,12 @@
 -- `board::check_leg` answers by the rows 1 to 5.
 use mathlib.Core.Path.{_≡_, sym, ap, _∙_}
 use borrow.Author.Needs.{needs}
-use Rattle.laws.proofs.Tests.{answered-no, answered-yes}
 use denote.Ref.{now}
+use Rattle.laws.proofs.Tests.{answered-no, answered-yes}
 use Rattle.board.specs.Board.{Board, board}
-use Rattle.board.specs.Paper.{Handed, handed, boardRows}
-use Rattle.board.proofs.Rows.{is-refusal, board-screen, ends-first, ends-second, ends-pass}
-use Rattle.board.proofs.Screens.{accepted-on, refused-on}
+use Rattle.board.specs.Handed.{Verdict, andThen, passes, verdict, boardRows}
+use Rattle.board.proofs.Rows.{ends-first, ends-second, ends-pass}
+use Rattle.board.proofs.Verdicts.{passes-on, checked-refuses}
 use Rattle.board.proofs.check_leg.Statement.{statement}
 use Rattle.board.proofs.check_leg.Tie as tie
 
@@ -20,17 +20,15 @@ check-board-requires c κs = search needs
 enum-told : tie.Need-enum-told
 enum-told c = search needs
 
+enum-told-2 : tie.Need-enum-told-2
+enum-told-2 c = search needs
+
 returns : tie.Need-returns
-returns c =
-    let e = c .before .check-board .ensures in
-    let (n, p, r, l) = is-refusal (c .before .check-board .result) (c .match .keys2) in
-    r ∙ sym (refused-on _ (board-screen _) n p (sym e ∙ r) _)
+returns c = checked-refuses _ (c .enum-told2 .given .1) (c .before .before .check-board .ensures)
 
 -- the board is accepted, so its ends decide
-board-passes : (c : tie.After-enum-told) (rest : Handed) → boardRows (asked c) rest ≡ rest
-board-passes c =
-    let k = c .before .before in
-    accepted-on _ (board-screen (asked c)) (sym (k .check-board .ensures) ∙ ap handed (c .enum-told .given .1))
+board-passes : (c : tie.After-enum-told) (w : Verdict) → andThen (boardRows (asked c)) w ≡ w
+board-passes c w = let k = c .before .before in passes-on w (sym (k .check-board .ensures) ∙ ap verdict (c .enum-told .given .1))
 
 is-vertex-requires : tie.Need-is-vertex-requires
 is-vertex-requires c κs = search needs
@@ -38,7 +36,7 @@ is-vertex-requires c κs = search needs
 returns-2 : tie.Need-returns-2
 returns-2 c =
     let k = c .before .before in
-    sym (board-passes k _ ∙ ends-first (asked k) _ _ _ _ _ (answered-no (c .before .is-vertex .ensures) (c .if1 .taken)))
+    sym (board-passes k _ ∙ ends-first (asked k) _ _ _ _ (answered-no (c .before .is-vertex .ensures) (c .if1 .taken)))
 
 is-vertex-requires-2 : tie.Need-is-vertex-requires-2
 is-vertex-requires-2 c κs = search needs
@@ -47,13 +45,13 @@ returns-3 : tie.Need-returns-3
 returns-3 c =
     let k = c .before .before .before .before in
     let first = answered-yes (c .before .before .before .is-vertex .ensures) (c .before .before .if1 .left) in
-    sym (board-passes k _ ∙ ends-second (asked k) _ _ _ _ _ first (answered-no (c .before .is-vertex2 .ensures) (c .if2 .taken)))
+    sym (board-passes k _ ∙ ends-second (asked k) _ _ _ _ first (answered-no (c .before .is-vertex2 .ensures) (c .if2 .taken)))
 
 returns-4 : tie.Need-returns-4
 returns-4 c =
     let k = c .before .before .before .before in
     let first = answered-yes (c .before .before .before .is-vertex .ensures) (c .before .before .if1 .left) in
-    sym (board-passes k _ ∙ ends-pass (asked k) _ _ _ _ _ first (answered-yes (c .before .is-vertex2 .ensures) (c .if2 .left)))
+    sym (board-passes k _ ∙ ends-pass (asked k) _ _ _ _ first (answered-yes (c .before .is-vertex2 .ensures) (c .if2 .left)))
 
 pub check-leg-spec : {M : Type 1} → statement M
 check-leg-spec =
@@ -61,6 +59,7 @@ check-leg-spec =
     (tie.spec
     check-board-requires
     enum-told
+    enum-told-2
     returns
     is-vertex-requires
     returns-2

@@ -5,7 +5,7 @@ use native.Mathlib.Omega.{arith}
 use borrow.Author.Needs.{needs}
 use borrow.Author.Tests.{not-true, ltb-false}
 use lib.ListN.{length, drop}
-use Rattle.board.specs.Paper.{firstBad}
+use Rattle.board.specs.Handed.{firstBad}
 use Rattle.board.proofs.Bytes.{bad-here, bad-later, bad-never, bad-le}
 use Rattle.board.proofs.first_bad.Statement.{statement}
 use Rattle.board.proofs.first_bad.Tie as tie

@@ -3,11 +3,8 @@ use borrow.Author.Needs.{needs}
 use Rattle.capi.proofs.refuse_length.Statement.{statement}
 use Rattle.capi.proofs.refuse_length.Tie as tie
 
-cells-requires : tie.Need-cells-requires
-cells-requires c κs = search needs
-
 returns : tie.Need-returns
-returns c = rw (c .cells .ensures)
+returns c = rw (c .exact-cells .ensures)
 
 pub refuse-length-spec : {M : Type 1} → statement M
-refuse-length-spec = tie.close (tie.spec cells-requires returns)
+refuse-length-spec = tie.close (tie.spec (λ c κs. search needs) returns)

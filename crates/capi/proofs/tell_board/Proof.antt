@@ -1,8 +1,24 @@
 -- `capi::tell_board` hands each answer on as its row says.
+use mathlib.Core.Path.{refl}
 use borrow.Author.Needs.{needs}
-use Rattle.capi.proofs.Told.{board-as, board-why}
+use Rattle.job.specs.Answers.{noSides, handedBoard}
+use Rattle.capi.specs.Told.{toldBoard}
+use Rattle.capi.proofs.Told.{told-as, told-refused, job-refusal-is}
 use Rattle.capi.proofs.tell_board.Statement.{statement}
 use Rattle.capi.proofs.tell_board.Tie as tie
+
+returns : tie.Need-returns
+returns c = told-as handedBoard toldBoard (c .before .answer .given .1) refl
+
+returns-2 : tie.Need-returns-2
+returns-2 c =
+    let p = c .before in
+    let n = p .before in
+    let g = n .before .before .answer2 .given in
+    told-refused handedBoard toldBoard noSides (g .1) refl (job-refusal-is (g .0 .0) (n .number .ensures) (p .place .ensures)) (c .refuse-board .ensures)
+
+returns-3 : tie.Need-returns-3
+returns-3 c = told-as handedBoard toldBoard (c .before .enum-told .given .1) (c .refuse-board2 .ensures)
 
 pub tell-board-spec : {M : Type 1} → statement M
 tell-board-spec =
@@ -15,6 +31,6 @@ tell-board-spec =
     (λ c κs. search needs)
     (λ c. search needs)
     (λ c κs. search needs)
-    (λ c. search board-as)
-    (λ c. search board-why)
-    (λ c. search board-as))
+    returns
+    returns-2
+    returns-3)

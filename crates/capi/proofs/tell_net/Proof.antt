@@ -1,8 +1,24 @@
 -- `capi::tell_net` hands each answer on as its row says.
+use mathlib.Core.Path.{refl}
 use borrow.Author.Needs.{needs}
-use Rattle.capi.proofs.Told.{net-as, net-why}
+use Rattle.job.specs.Answers.{noNet, handedNet}
+use Rattle.capi.specs.Told.{toldNet}
+use Rattle.capi.proofs.Told.{told-as, told-refused, job-refusal-is}
 use Rattle.capi.proofs.tell_net.Statement.{statement}
 use Rattle.capi.proofs.tell_net.Tie as tie
+
+returns : tie.Need-returns
+returns c = told-as handedNet toldNet (c .before .answer .given .1) refl
+
+returns-2 : tie.Need-returns-2
+returns-2 c =
+    let p = c .before in
+    let n = p .before in
+    let g = n .before .before .answer2 .given in
+    told-refused handedNet toldNet noNet (g .1) refl (job-refusal-is (g .0 .0) (n .number .ensures) (p .place .ensures)) (c .refuse-net .ensures)
+
+returns-3 : tie.Need-returns-3
+returns-3 c = told-as handedNet toldNet (c .before .enum-told .given .1) (c .refuse-net2 .ensures)
 
 pub tell-net-spec : {M : Type 1} → statement M
 tell-net-spec =
@@ -15,6 +31,6 @@ tell-net-spec =
     (λ c κs. search needs)
     (λ c. search needs)
     (λ c κs. search needs)
-    (λ c. search net-as)
-    (λ c. search net-why)
-    (λ c. search net-as))
+    returns
+    returns-2
+    returns-3)

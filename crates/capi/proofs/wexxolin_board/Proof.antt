@@ -17,7 +17,7 @@ same-length c = search needs
 returns : tie.Need-returns
 returns c =
     let k = c .before .before .before in
-    record { told = c .tell-board .ensures ∙ ap toldBoard (k .read-board .ensures .row); cells = k .read-board .ensures .cells }
+    record { told = c .tell-board .ensures ∙ ap toldBoard (k .read-board .ensures .row-is); after-is = k .read-board .ensures .after-is }
 
 pub wexxolin-board-spec : {M : Type 1} → statement M
 wexxolin-board-spec =

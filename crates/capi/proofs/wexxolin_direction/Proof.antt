@@ -1,20 +1,19 @@
 -- `wexxolin_direction` is the call by differences for C.
-use mathlib.Core.Path.{refl, ap, _∙_}
-use Rattle.length.specs.Paper.{directionRow}
-use Rattle.length.proofs.Legs.{differences-as}
-use Rattle.capi.specs.Told.{toldDirection}
+use mathlib.Core.Path.{ap, _∙_}
+use lib.IntN.{ℤ}
 use borrow.Author.Needs.{needs}
+use Rattle.length.specs.Answers.{directionRow}
+use Rattle.length.proofs.Signed.{narrowed}
+use Rattle.capi.specs.Told.{toldDirection}
 use Rattle.capi.proofs.wexxolin_direction.Statement.{statement}
 use Rattle.capi.proofs.wexxolin_direction.Tie as tie
 
-of-requires : tie.Need-of-requires
-of-requires c κs = search needs
-
-tell-direction-requires : tie.Need-tell-direction-requires
-tell-direction-requires c κs = search needs
-
 returns : tie.Need-returns
-returns c = c .tell-direction .ensures ∙ ap toldDirection (c .before .of .ensures ∙ ap directionRow (differences-as (c .before .before .args .dx) (c .before .before .args .dy) (c .before .before .fits .dx) (c .before .before .fits .dy) refl))
+returns c =
+    let k = c .before in
+    let s = k .before in
+    c .tell-direction .ensures
+    ∙ ap toldDirection (k .of .ensures ∙ narrowed (λ (dx dy : ℤ). directionRow dx dy) (s .args .dx) (s .args .dy) (s .fits .dx) (s .fits .dy))
 
 pub wexxolin-direction-spec : {M : Type 1} → statement M
-wexxolin-direction-spec = tie.close (tie.spec of-requires tell-direction-requires returns)
+wexxolin-direction-spec = tie.close (tie.spec (λ c κs. search needs) (λ c κs. search needs) returns)

@@ -1,19 +1,12 @@
 -- `wexxolin_direction_between` is the call by vertices for C.
 use mathlib.Core.Path.{ap, _∙_}
-use Rattle.capi.specs.Told.{toldDirection}
 use borrow.Author.Needs.{needs}
+use Rattle.capi.specs.Told.{toldDirection}
 use Rattle.capi.proofs.wexxolin_direction_between.Statement.{statement}
 use Rattle.capi.proofs.wexxolin_direction_between.Tie as tie
-
-between-requires : tie.Need-between-requires
-between-requires c κs = search needs
-
-tell-direction-requires : tie.Need-tell-direction-requires
-tell-direction-requires c κs = search needs
 
 returns : tie.Need-returns
 returns c = c .tell-direction .ensures ∙ ap toldDirection (c .before .between .ensures)
 
 pub wexxolin-direction-between-spec : {M : Type 1} → statement M
-wexxolin-direction-between-spec =
-    tie.close (tie.spec between-requires tell-direction-requires returns)
+wexxolin-direction-between-spec = tie.close (tie.spec (λ c κs. search needs) (λ c κs. search needs) returns)

@@ -1,20 +1,23 @@
 -- `wexxolin_length` is the call by differences for C.
-use mathlib.Core.Path.{refl, ap, _∙_}
-use Rattle.length.specs.Paper.{lengthRow}
-use Rattle.length.proofs.Legs.{differences-as}
-use Rattle.capi.specs.Told.{toldLength}
+use mathlib.Core.Path.{_≡_, ap, _∙_}
+use lib.IntN.{ℤ}
 use borrow.Author.Needs.{needs}
+use Rattle.length.specs.Answers.{lengthRow, handedLength}
+use Rattle.length.proofs.Signed.{narrowed}
+use Rattle.length.proofs.Answers.{length-exact}
+use Rattle.capi.specs.Told.{toldLength}
 use Rattle.capi.proofs.wexxolin_length.Statement.{statement}
 use Rattle.capi.proofs.wexxolin_length.Tie as tie
 
-of-requires : tie.Need-of-requires
-of-requires c κs = search needs
+-- what the call handed back
+handed : (c : tie.After-of) → let a = c .before .args in handedLength (c .of .result) ≡ lengthRow (a .dx) (a .dy)
+handed c = let s = c .before in c .of .ensures ∙ narrowed (λ (dx dy : ℤ). lengthRow dx dy) (s .args .dx) (s .args .dy) (s .fits .dx) (s .fits .dy)
 
 tell-length-requires : tie.Need-tell-length-requires
-tell-length-requires c κs = search needs
+tell-length-requires c κs = rw (c .of .ensures) (length-exact _ _)
 
 returns : tie.Need-returns
-returns c = c .tell-length .ensures ∙ ap toldLength (c .before .of .ensures ∙ ap lengthRow (differences-as (c .before .before .args .dx) (c .before .before .args .dy) (c .before .before .fits .dx) (c .before .before .fits .dy) refl))
+returns c = c .tell-length .ensures ∙ ap toldLength (handed (c .before))
 
 pub wexxolin-length-spec : {M : Type 1} → statement M
-wexxolin-length-spec = tie.close (tie.spec of-requires tell-length-requires returns)
+wexxolin-length-spec = tie.close (tie.spec (λ c κs. search needs) tell-length-requires returns)

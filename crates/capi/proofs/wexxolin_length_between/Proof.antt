@@ -1,18 +1,16 @@
 -- `wexxolin_length_between` is the call by vertices for C.
 use mathlib.Core.Path.{ap, _∙_}
-use Rattle.capi.specs.Told.{toldLength}
 use borrow.Author.Needs.{needs}
+use Rattle.length.proofs.Answers.{length-between-exact}
+use Rattle.capi.specs.Told.{toldLength}
 use Rattle.capi.proofs.wexxolin_length_between.Statement.{statement}
 use Rattle.capi.proofs.wexxolin_length_between.Tie as tie
 
-between-requires : tie.Need-between-requires
-between-requires c κs = search needs
-
 tell-length-requires : tie.Need-tell-length-requires
-tell-length-requires c κs = search needs
+tell-length-requires c κs = rw (c .between .ensures) (length-between-exact _ _ _ _)
 
 returns : tie.Need-returns
 returns c = c .tell-length .ensures ∙ ap toldLength (c .before .between .ensures)
 
 pub wexxolin-length-between-spec : {M : Type 1} → statement M
-wexxolin-length-between-spec = tie.close (tie.spec between-requires tell-length-requires returns)
+wexxolin-length-between-spec = tie.close (tie.spec (λ c κs. search needs) tell-length-requires returns)

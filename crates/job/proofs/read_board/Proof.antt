@@ -1,8 +1,8 @@
 -- `job::read_board` checks the whole job and hands out its board.
 use mathlib.Core.Path.{sym, ap, _∙_}
-use Rattle.board.specs.Paper.{Handed}
 use Rattle.job.specs.Steps.{handedStep}
-use Rattle.job.proofs.Rows.{next-accepted, rows-accepted, board-refused}
+use Rattle.job.proofs.steps.Judging.{whole-next, whole-refused}
+use Rattle.job.proofs.Reading.{board-refused}
 use borrow.Author.Needs.{needs}
 use Rattle.job.proofs.read_board.Statement.{statement}
 use Rattle.job.proofs.read_board.Tie as tie
@@ -18,12 +18,15 @@ enum-known-whole c = search needs
 
 write-board-requires : tie.Need-write-board-requires
 write-board-requires c κs =
-    let e = sym (ap handedStep (c .before .before .whole .given .1)) ∙ c .before .before .before .before .check-job .ensures in
-    let a = next-accepted _ (c .before .before .whole .given .0 .0) _ e in
-    (a, ap (λ (h : Handed). h .values) (e ∙ rows-accepted _ a _))
+    let next = c .before .before in
+    let e = sym (ap handedStep (next .whole .given .1)) ∙ next .before .before .check-job .ensures in
+    (whole-next _ e .0, whole-next _ e .1)
 
 returns : tie.Need-returns
-returns c = board-refused _ _ (c .before .why .given .0 .0) _ (sym (ap handedStep (c .before .why .given .1)) ∙ c .before .before .before .check-job .ensures)
+returns c =
+    let stop = c .before in
+    let why = stop .why .given .0 .0 in
+    board-refused _ _ why (whole-refused _ why (sym (ap handedStep (stop .why .given .1)) ∙ stop .before .before .check-job .ensures))
 
 same-length : tie.Need-same-length
 same-length c = search needs

@@ -4,7 +4,7 @@ use lib.IntN.{pos, natAbs, _-ℤ_}
 use mir.Syntax.{w32, w64}
 use mir.Val.{toZ, ofZ}
 use mir.ValLaws.{toZ-ofZ}
-use Rattle.length.proofs.Steps.{narrow-fits, flip, flip-fits, keep, cast-size}
+use Rattle.length.proofs.Signed.{narrow-fits, flip, flip-fits, keep, cast-size}
 use Rattle.length.proofs.size_of.Statement.{statement}
 use Rattle.length.proofs.size_of.Tie as tie
 

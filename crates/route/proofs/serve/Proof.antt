@@ -5,8 +5,11 @@ use Prim.Native.Nat.{ℕ, _*_}
 use native.Mathlib.Nat.{mul-le-mul}
 use native.Mathlib.Omega.{arith}
 use borrow.Author.Needs.{needs}
+use denote.Ref.{now}
 use lib.ListN.{take, length-take}
-use Rattle.board.specs.Board.{board, Sound}
+use Rattle.board.specs.Board.{board}
+use Rattle.board.specs.Inner.{Sound}
+use Rattle.job.specs.Inner.{Accepted}
 use Rattle.job.proofs.Above.{board-given, given-sound}
 use Rattle.route.proofs.serve.Statement.{statement}
 use Rattle.route.proofs.serve.Tie as tie
@@ -21,25 +24,29 @@ enum-known-width : tie.Need-enum-known-width
 enum-known-width c = search needs
 
 -- the board that was read
-abbrev cells : tie.After-width → List ℕ
-cells c = take (c .width .given .0 .0 * c .width .given .0 .1 .0) (c .before .before .before .read-board .last .1 .0)
+abbrev room : tie.After-width → List ℕ
+room c = c .before .before .before .read-board .last .1 .0
 
-given : (c : tie.After-width) → Sound (board (cells c) (c .width .given .0 .0) (c .width .given .0 .1 .0))
-given c = given-sound (board-given (rw (c .width .given .1) at (c .before .before .before .read-board .ensures)))
+-- it is sound, and its job is accepted
+given : (c : tie.After-width) → let s = c .width .given .0 in
+    Sound (board (take (s .0 * s .1 .0) (room c)) (s .0) (s .1 .0)) × Accepted (now (c .before .before .before .before .before .before .args .job))
+given c =
+    let b = board-given (rw (c .width .given .1) at (c .before .before .before .read-board .ensures)) in
+    (given-sound b, b .accepted)
 
 mul-board : tie.Need-mul-board
-mul-board c = let s = given (c .before) in omega (arith, mul-le-mul (s .narrow) (s .low))
+mul-board c = let s = given (c .before) .0 in omega (arith, mul-le-mul (s .narrow) (s .low))
 
 array-share-prefix-board : tie.Need-array-share-prefix-board
 array-share-prefix-board c =
     let w = c .before .width .given in
-    omega (arith, given (c .before) .full, length-take (w .0 .0 * w .0 .1 .0) (c .before .before .before .before .read-board .last .1 .0))
+    omega (arith, given (c .before) .0 .full, length-take (w .0 .0 * w .0 .1 .0) (room (c .before)))
 
 slice-aggregate-cells : tie.Need-slice-aggregate-cells
-slice-aggregate-cells c = sym (given (c .before .before) .full)
+slice-aggregate-cells c = sym (given (c .before .before) .0 .full)
 
 write-nets-requires : tie.Need-write-nets-requires
-write-nets-requires c κs = given (c .before .before) .narrow
+write-nets-requires c κs = (given (c .before .before) .0 .narrow, given (c .before .before) .1)
 
 enum-known-why : tie.Need-enum-known-why
 enum-known-why c = search needs

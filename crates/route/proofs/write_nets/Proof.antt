@@ -1,12 +1,13 @@
 -- `route::write_nets` ends, and hands on only boards that fit.
 use Prim.Native.Nat.{_≤_, _-_}
 use borrow.Author.Needs.{needs}
-use Rattle.board.specs.Limits.{side}
+use Rattle.board.specs.Limits.{largestSide}
+use Rattle.job.specs.Inner.{Accepted}
 use Rattle.route.proofs.write_nets.Statement.{statement}
 use Rattle.route.proofs.write_nets.Tie as tie
 
 abbrev Inv-loop : tie.InvT-loop
-Inv-loop job cells width height nets index₀ t12 index = (index ≤ nets) × (width ≤ side)
+Inv-loop job cells width height nets index₀ t12 index = (index ≤ nets) × (width ≤ largestSide) × Accepted job
 
 abbrev μ-loop : tie.MeasureT-loop
 μ-loop job cells width height nets index₀ t12 index = nets - index
@@ -14,8 +15,8 @@ abbrev μ-loop : tie.MeasureT-loop
 loop-holds : tie.Need-loop-holds Inv-loop μ-loop
 loop-holds c = search needs
 
-read-net-requires : tie.Need-read-net-requires Inv-loop μ-loop
-read-net-requires c κs = search needs
+net-at-requires : tie.Need-net-at-requires Inv-loop μ-loop
+net-at-requires c κs = search needs
 
 enum-known-number : tie.Need-enum-known-number Inv-loop μ-loop
 enum-known-number c = search needs
@@ -54,7 +55,7 @@ write-nets-spec =
     Inv-loop
     μ-loop
     loop-holds
-    read-net-requires
+    net-at-requires
     enum-known-number
     returns
     slice-aggregate-write-all

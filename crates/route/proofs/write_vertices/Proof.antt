@@ -2,12 +2,12 @@
 use Prim.Native.Nat.{_≤_, _-_}
 use lib.ListN.{length}
 use borrow.Author.Needs.{needs}
-use Rattle.board.specs.Limits.{side}
+use Rattle.board.specs.Limits.{largestSide}
 use Rattle.route.proofs.write_vertices.Statement.{statement}
 use Rattle.route.proofs.write_vertices.Tie as tie
 
 abbrev Inv-loop : tie.InvT-loop
-Inv-loop width count path i₀ i = (i ≤ length path) × (width ≤ side)
+Inv-loop width count path i₀ i = (i ≤ length path) × (width ≤ largestSide)
 
 abbrev μ-loop : tie.MeasureT-loop
 μ-loop width count path i₀ i = length path - i

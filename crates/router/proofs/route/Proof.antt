@@ -3,45 +3,51 @@ use mathlib.Core.Path.{_≡_, sym, ap, _∙_}
 use native.Mathlib.Omega.{arith}
 use borrow.Author.Needs.{needs}
 use denote.Ref.{now}
-use Rattle.board.specs.Board.{Board, board, Sound}
-use Rattle.board.specs.Paper.{accepted, legRows}
-use Rattle.board.specs.Paper as checks
+use Rattle.board.specs.Board.{Board, board}
+use Rattle.board.specs.Inner.{Sound}
+use Rattle.board.specs.Handed.{passes, verdict, legRows}
 use Rattle.board.proofs.Numbers.{vertices-few}
 use Rattle.board.proofs.Rows.{leg-sound, leg-first, leg-second}
-use Rattle.router.proofs.Routing.{rooms, not-accepted, routed-refused, routed-short, routed-ran}
+use Rattle.router.specs.Answers.{Slices, slices}
+use Rattle.router.proofs.Routing.{rooms, routed-refused, routed-short, routed-ran}
 use Rattle.router.proofs.route.Statement.{statement}
 use Rattle.router.proofs.route.Tie as tie
 
 -- the request
-abbrev began : tie.After-check-leg → tie.Start
-began c = c .before .before .before .before .before .before
-
 abbrev asked : tie.Start → Board
 asked s = board (now (s .args .cells)) (s .args .width) (s .args .height)
+
+abbrev lent : tie.Start → Slices
+lent s = slices (now (s .args .g)) (now (s .args .parents)) (now (s .args .marks)) (now (s .args .path))
+
+-- where the checks have been made, and where the call began
+abbrev began : tie.After-check-leg → tie.Start
+began c = c .before .before .before .before .before .before
 
 check-leg-requires : tie.Need-check-leg-requires
 check-leg-requires c κs = search needs
 
-enum-told : tie.Need-enum-told
-enum-told c = search needs
-
-refused-requires : tie.Need-refused-requires
-refused-requires c κs = not-accepted (c .before .check-leg .result) (c .match .keys2)
+enum-known-checked : tie.Need-enum-known-checked
+enum-known-checked c = search needs
 
 returns : tie.Need-returns
 returns c =
-    let k = c .before .before in
+    let k = c .before .before .before in
     let s = began k in
-    routed-refused (asked s) (s .args .sx) (s .args .sy) (s .args .gx) (s .args .gy) (now (s .args .g)) (now (s .args .parents)) (now (s .args .marks)) (now (s .args .path))
-    (k .check-leg .result) (c .before .match .keys2) _ (c .refused .ensures) (k .check-leg .ensures)
+    let a = s .args in
+    routed-refused (asked s) (a .sx) (a .sy) (a .gx) (a .gy) (lent s) (k .check-leg .result) (c .before .checked .given .0 .0)
+    (c .before .checked .given .1) (k .check-leg .ensures)
+
+enum-told : tie.Need-enum-told
+enum-told c = search needs
 
 -- it passes the checks 1 to 5, on a sound board
-passes : (c : tie.After-enum-told) →
-    let s = began (c .before .before) in legRows (asked s) (s .args .sx) (s .args .sy) (s .args .gx) (s .args .gy) accepted ≡ accepted
-passes c = sym (c .before .before .check-leg .ensures) ∙ ap checks.handed (c .enum-told .given .1)
+leg-passes : (c : tie.After-enum-told) →
+    let s = began (c .before .before) in legRows (asked s) (s .args .sx) (s .args .sy) (s .args .gx) (s .args .gy) ≡ passes
+leg-passes c = sym (c .before .before .check-leg .ensures) ∙ ap verdict (c .enum-told .given .1)
 
 sound : (c : tie.After-enum-told) → Sound (asked (began (c .before .before)))
-sound c = leg-sound _ _ _ _ _ (passes c)
+sound c = leg-sound _ _ _ _ _ (leg-passes c)
 
 add-vertices : tie.Need-add-vertices
 add-vertices c = omega (arith, sound c .narrow)
@@ -57,8 +63,8 @@ mul-vertices c =
 returns-2 : tie.Need-returns-2
 returns-2 c =
     let s = began (c .before .before .before) in
-    routed-short (asked s) (s .args .sx) (s .args .sy) (s .args .gx) (s .args .gy) (now (s .args .g)) (now (s .args .parents)) (now (s .args .marks)) (now (s .args .path))
-    (passes (c .before)) (c .if1 .taken)
+    let a = s .args in
+    routed-short (asked s) (a .sx) (a .sy) (a .gx) (a .gy) (lent s) (leg-passes (c .before)) (c .if1 .taken)
 
 search-route-requires : tie.Need-search-route-requires
 search-route-requires c κs =
@@ -67,8 +73,8 @@ search-route-requires c κs =
     let r = rooms _ _ _ _ (e .if1 .left) in
     record {
       sound = sound k;
-      start = leg-first _ _ _ _ _ (passes k);
-      goal = leg-second _ _ _ _ _ (passes k);
+      start = leg-first _ _ _ _ _ (leg-passes k);
+      goal = leg-second _ _ _ _ _ (leg-passes k);
       g-room = r .0;
       parents-room = r .1;
       marks-room = r .2;
@@ -91,17 +97,17 @@ returns-3 c =
     let q = c .before .before .before .before .before .before .before .before in
     let e = q .before .before .before .before .before in
     let s = began (e .before .before .before) in
-    routed-ran (asked s) (s .args .sx) (s .args .sy) (s .args .gx) (s .args .gy) (now (s .args .g)) (now (s .args .parents)) (now (s .args .marks)) (now (s .args .path))
-    (passes (e .before)) _ _ _ _ _ (e .if1 .left) (q .search-route .ensures)
+    let a = s .args in
+    routed-ran (asked s) (a .sx) (a .sy) (a .gx) (a .gy) (lent s) (leg-passes (e .before)) _ _ (e .if1 .left) (q .search-route .ensures)
 
 pub route-spec : {M : Type 1} → statement M
 route-spec =
     tie.close
     (tie.spec
     check-leg-requires
-    enum-told
-    refused-requires
+    enum-known-checked
     returns
+    enum-told
     add-vertices
     add-vertices-2
     mul-vertices

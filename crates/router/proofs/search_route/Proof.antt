@@ -5,11 +5,11 @@ use borrow.Author.Tests.{not-true, not-false}
 use denote.Ref.{now}
 use Rattle.board.specs.Board.{Board, board}
 use Rattle.board.proofs.Numbers.{number-below}
-use Rattle.search.specs.Search as theta
-use Rattle.search.specs.Demands.{Work}
-use Rattle.search.specs.Request.{problem}
+use Rattle.theta.specs.Search as theta
+use Rattle.theta.specs.Demands.{Work}
+use Rattle.search.specs.Problem.{problem}
 use Rattle.search.proofs.Theorems.{board-work, found-traced, found-path, found-units, found-exact}
-use Rattle.router.proofs.Routing.{as-found, g-room, ran-none, ran-told}
+use Rattle.router.proofs.Routing.{as-found, g-room, ran-none, ran-path}
 use Rattle.router.proofs.search_route.Statement.{statement}
 use Rattle.router.proofs.search_route.Tie as tie
 
@@ -20,7 +20,10 @@ began c = c .before .before .before .before .before .before .before .before .bef
 abbrev asked : tie.Start → Board
 asked s = board (now (s .args .cells)) (s .args .width) (s .args .height)
 
-work : (c : tie.After-find) → let s = began c in let p = problem (asked s) (s .args .sx) (s .args .sy) (s .args .gx) (s .args .gy) in Work p (theta.search p .state)
+abbrev wanted : tie.Start → theta.Problem
+wanted s = problem (asked s) (s .args .sx) (s .args .sy) (s .args .gx) (s .args .gy)
+
+work : (c : tie.After-find) → Work (wanted (began c)) (theta.search (wanted (began c)) .state)
 work c = let s = began c in board-work (asked s) (s .args .sx) (s .args .sy) (s .args .gx) (s .args .gy) (s .pre .start)
 
 find-requires : tie.Need-find-requires
@@ -67,7 +70,7 @@ tell-path-requires c κs =
     let e = c .before .before .before .before .before in
     let k = ran e in
     let s = began k in
-    let F = as-found (not-false _ (e .if1 .left)) (k .find .ensures) in
+    let F = as-found {p = wanted s} (not-false _ (e .if1 .left)) (k .find .ensures) in
     rw (c .before .before .before .before .number-of .ensures, c .before .before .before .number-of2 .ensures)
     (found-traced (s .pre .start) (s .args .gx) (s .args .gy) F, found-exact (s .pre .start) (s .args .gx) (s .args .gy) F (s .pre .sound))
 
@@ -91,10 +94,10 @@ returns-2 c =
     let k = ran e in
     let s = began k in
     let y = not-false _ (e .if1 .left) in
-    let F = as-found y (k .find .ensures) in
+    let F = as-found {p = wanted s} y (k .find .ensures) in
     let n = t .before .before .before .before .before in
     let m = t .before .before .before .before in
-    ran-told (work k) (k .find .ensures) y (t .tell-path .ensures)
+    ran-path (work k) (k .find .ensures) y (t .tell-path .ensures)
     (rw (n .number-of .ensures, m .number-of2 .ensures) (found-path (s .pre .start) (s .args .gx) (s .args .gy) F))
     (rw (m .number-of2 .ensures) (found-units (s .pre .start) (s .args .gx) (s .args .gy) F))
 

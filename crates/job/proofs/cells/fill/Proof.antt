@@ -2,8 +2,8 @@
 use mathlib.Core.Path.{_≡_}
 use Prim.Native.Nat.{_-_, _≤_}
 use native.Mathlib.Omega.{arith}
-use Rattle.job.specs.Steps.{Filled}
-use Rattle.job.proofs.Painting.{fill-none, fill-more}
+use Rattle.job.specs.Cells.{Filled}
+use Rattle.job.proofs.cells.Painting.{fill-none, fill-more}
 use Rattle.job.proofs.cells.fill.Statement.{statement}
 use Rattle.job.proofs.cells.fill.Tie as tie
 

@@ -5,8 +5,8 @@ use native.Mathlib.Nat.{mul-le-mul-right}
 use native.Mathlib.Omega.{arith}
 use lib.ListN.{length}
 use Rattle.job.specs.Job.{inside}
-use Rattle.job.specs.Steps.{Painted}
-use Rattle.job.proofs.Painting.{lines-none, lines-more}
+use Rattle.job.specs.Cells.{Painted}
+use Rattle.job.proofs.cells.Painting.{lines-none, lines-more}
 use Rattle.job.proofs.cells.paint.Statement.{statement}
 use Rattle.job.proofs.cells.paint.Tie as tie
 

@@ -4,11 +4,12 @@ use Prim.Native.Nat.{_-_, _≤_}
 use native.Mathlib.Nat.{mul-le-mul-right}
 use native.Mathlib.Omega.{arith}
 use borrow.Author.Needs.{needs}
-use Rattle.job.specs.Job.{records, inKeepout}
-use Rattle.job.specs.Steps.{Painted}
-use Rattle.job.proofs.Says.{said}
+use Rattle.records.specs.Records.{records}
+use Rattle.job.specs.Job.{inKeepout}
+use Rattle.job.specs.Cells.{Painted}
+use Rattle.job.proofs.kinds.Says.{said}
 use Rattle.job.proofs.Accepted.{no-keepout, keepout-on}
-use Rattle.job.proofs.Painting.{coveredBy, keepouts-none, keepouts-skip, keepouts-more}
+use Rattle.job.proofs.cells.Painting.{coveredBy, keepouts-none, keepouts-skip, keepouts-more}
 use Rattle.job.proofs.cells.paint_keepouts.Statement.{statement}
 use Rattle.job.proofs.cells.paint_keepouts.Tie as tie
 
@@ -35,17 +36,21 @@ loop-less c = omega arith
 
 loop-again : tie.Need-loop-again Inv-loop μ-loop
 loop-again c =
-    let k = c .before .before in
-    let l = k .before .loop in
-    let none = no-keepout (k .before .before .before .before .pre .0) (l .i) (omega arith) (said _ _ (c .before .record-at .ensures)) (c .match .keys2) in
+    let read = c .before in
+    let at = read .before .before in
+    let l = at .loop in
+    let s = at .before .before .before in
+    let none = no-keepout (s .pre .0) (l .i) (omega arith) (said _ _ (read .record-at .ensures)) (c .match .keys2) in
     (omega arith, l .inv .1, keepouts-skip _ _ (l .i) none (l .inv .2))
 
 paint-requires : tie.Need-paint-requires Inv-loop μ-loop
 paint-requires c κs =
-    let k = c .before .before .before .before .before in
-    let s = k .before .before .before .before in
-    let l = k .before .loop in
-    let on = keepout-on (s .pre .0) (omega arith) (said _ _ (sym (c .before .before .left .given .1) ∙ c .before .before .before .before .record-at .ensures)) in
+    let keepout = c .before .before in
+    let read = keepout .before .before in
+    let at = read .before .before in
+    let l = at .loop in
+    let s = at .before .before .before in
+    let on = keepout-on (s .pre .0) (omega arith) (said _ _ (sym (keepout .left .given .1) ∙ read .record-at .ensures)) in
     omega (arith, l .inv .2 .long, mul-le-mul-right (s .args .wide) (on .3))
 
 add-i-2 : tie.Need-add-i-2 Inv-loop μ-loop
@@ -56,10 +61,12 @@ loop-less-2 c = omega arith
 
 loop-again-2 : tie.Need-loop-again-2 Inv-loop μ-loop
 loop-again-2 c =
-    let r = c .before .before .before .before .before .before .before in
-    let l = r .before .before .loop in
-    let this = said _ _ (sym (c .before .before .before .before .before .left .given .1) ∙ r .record-at .ensures) in
-    (omega arith, l .inv .1, keepouts-more _ _ this (l .inv .2) (c .before .before .paint .ensures))
+    let painted = c .before .before in
+    let keepout = painted .before .before .before in
+    let read = keepout .before .before in
+    let l = read .before .before .loop in
+    let this = said _ _ (sym (keepout .left .given .1) ∙ read .record-at .ensures) in
+    (omega arith, l .inv .1, keepouts-more _ _ this (l .inv .2) (painted .paint .ensures))
 
 same-length : tie.Need-same-length Inv-loop μ-loop
 same-length c = c .before .loop .inv .2 .long

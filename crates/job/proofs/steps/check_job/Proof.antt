@@ -1,35 +1,39 @@
--- `job::steps::check_job` judges the whole job. The loop's invariant: no record before is faulty, and what was read is what they say.
+-- `job::steps::check_job` judges the whole job. The loop's invariant: the records before pass, and what was read is what they say.
 use mathlib.Core.Path.{_≡_, refl, sym, ap, _∙_}
 use Prim.Native.Nat.{_-_, _≤_}
 use native.Mathlib.Omega.{arith}
 use borrow.Author.Needs.{needs}
-use Rattle.laws.specs.Below.{firstWhere, howMany}
-use Rattle.laws.proofs.Below.{none-yet, none-more}
-use Rattle.board.specs.Paper.{answer}
-use Rattle.job.specs.Job.{records, isFaulty, netBefore}
-use Rattle.job.specs.Steps.{told, readUpTo, handedStep}
-use Rattle.job.proofs.Judging.{clean-next, faulty-stop}
-use Rattle.job.proofs.Rows.{rows-long, rows-uneven, rows-none, rows-fault, rows-clean}
+use borrow.Author.Tests.{lt-ltb, le-ltb, eq-eqb, ne-eqb}
+use Rattle.laws.specs.Below.{howMany}
+use Rattle.board.specs.Handed.{passes, answer}
+use Rattle.records.specs.Records.{records, inOrder}
+use Rattle.records.proofs.InOrder.{none-yet, one-more}
+use Rattle.job.specs.Refusals.{netBefore, recordRows, jobRows}
+use Rattle.job.specs.Steps.{progress, handedStep, jobStep}
+use Rattle.job.proofs.steps.Judging.{goes-on, stops, ends}
 use Rattle.job.proofs.steps.check_job.Statement.{statement}
 use Rattle.job.proofs.steps.check_job.Tie as tie
 
 abbrev Inv-loop : tie.InvT-loop
-Inv-loop job count past₀ i₀ past i = (i ≤ count) × (told past ≡ readUpTo job i) × (firstWhere i (isFaulty job) ≡ i)
+Inv-loop job count past₀ i₀ past i = (i ≤ count) × (past ≡ progress job i) × (inOrder i (recordRows job) ≡ passes)
 
 abbrev μ-loop : tie.MeasureT-loop
 μ-loop job count past₀ i₀ past i = count - i
 
 returns : tie.Need-returns Inv-loop μ-loop
-returns c = sym (rows-long _ _ (c .if1 .taken))
+unfolding jobStep jobRows
+returns c = rw (lt-ltb _ _ (c .if1 .taken))
 
 returns-2 : tie.Need-returns-2 Inv-loop μ-loop
-returns-2 c = sym (rows-uneven _ _ (c .before .if1 .left) (c .if2 .taken))
+unfolding jobStep jobRows
+returns-2 c = rw (le-ltb _ _ (c .before .if1 .left), ne-eqb _ 0 (c .if2 .taken))
 
 returns-3 : tie.Need-returns-3 Inv-loop μ-loop
-returns-3 c = sym (rows-none _ _ (c .before .before .if1 .left) (c .before .if2 .left) (c .if3 .taken))
+unfolding jobStep jobRows
+returns-3 c = rw (le-ltb _ _ (c .before .before .if1 .left), eq-eqb _ 0 (c .before .if2 .left), eq-eqb _ 0 (c .if3 .taken))
 
 loop-holds : tie.Need-loop-holds Inv-loop μ-loop
-unfolding readUpTo netBefore howMany
+unfolding progress netBefore howMany
 loop-holds c = (omega arith, refl, none-yet _)
 
 judge-requires : tie.Need-judge-requires Inv-loop μ-loop
@@ -43,11 +47,10 @@ enum-told c = search needs
 
 returns-4 : tie.Need-returns-4 Inv-loop μ-loop
 returns-4 c =
-    let j = c .before .before in
-    let l = j .before .before .loop in
-    let e = j .before .before .before in
-    let s = faulty-stop _ (l .i) (j .judge .result) (c .before .match .keys2) (j .judge .ensures) in
-    s .1 ∙ sym (rows-fault _ _ (e .before .before .if1 .left) (e .before .if2 .left) (l .i) (omega arith) (l .inv .2) (s .0))
+    let judged = c .before .before in
+    let at = judged .before .before in
+    let whole = at .before .before in
+    stops _ (whole .before .if1 .left) (whole .if2 .left) (omega arith) (at .loop .i) (omega arith) (at .loop .inv .2) (judged .judge .result) (c .before .match .keys2) (judged .judge .ensures)
 
 add-i : tie.Need-add-i Inv-loop μ-loop
 add-i c = omega arith
@@ -57,19 +60,19 @@ loop-less c = omega arith
 
 loop-again : tie.Need-loop-again Inv-loop μ-loop
 loop-again c =
-    let j = c .before .before .before in
-    let l = j .before .before .loop in
-    let n = clean-next _ (l .i) (c .before .judged .given .0 .0) (sym (ap handedStep (c .before .judged .given .1)) ∙ j .judge .ensures) in
-    (omega arith, n .1, none-more _ (l .i) (l .inv .2) (n .0))
+    let judged = c .before .before .before in
+    let l = judged .before .before .loop in
+    let n = goes-on _ (l .i) (sym (ap handedStep (c .before .judged .given .1)) ∙ judged .judge .ensures) in
+    (omega arith, n .1, one-more _ (l .i) (l .inv .2) (n .0))
 
 returns-5 : tie.Need-returns-5 Inv-loop μ-loop
 returns-5 c =
     let l = c .before .loop in
-    let e = c .before .before in
-    let job = e .before .before .before .before .args .job .now in
+    let whole = c .before .before .before in
+    let job = whole .before .before .before .args .job .now in
     let all : l .i ≡ records job = omega arith in
-    ap answer (l .inv .1 ∙ ap (readUpTo job) all)
-    ∙ sym (rows-clean job _ (e .before .before .if1 .left) (e .before .if2 .left) (omega arith) (rw all at (l .inv .2)))
+    ap answer (l .inv .1 ∙ ap (progress job) all)
+    ∙ ends job (whole .before .if1 .left) (whole .if2 .left) (omega arith) (rw all at (l .inv .2))
 
 pub check-job-spec : {M : Type 1} → statement M
 check-job-spec =

@@ -1,9 +1,8 @@
 -- `job::steps::judge` judges a record by its type.
 use mathlib.Core.Path.{sym, _∙_}
 use native.Mathlib.Omega.{arith}
-use denote.Ref.{now}
-use Rattle.job.proofs.Says.{said}
-use Rattle.job.proofs.Judging.{row-stray, row-board, row-keepout, row-net, nets-few}
+use Rattle.job.proofs.kinds.Says.{said}
+use Rattle.job.proofs.steps.Judging.{row-stray, row-board, row-keepout, row-net, nets-few}
 use borrow.Author.Needs.{needs}
 use Rattle.job.proofs.steps.judge.Statement.{statement}
 use Rattle.job.proofs.steps.judge.Tie as tie
@@ -30,25 +29,31 @@ enum-known-number : tie.Need-enum-known-number
 enum-known-number c = search needs
 
 net-step-requires : tie.Need-net-step-requires
-net-step-requires c κs = let s = c .before .before .before .before .before in omega (arith, nets-few _ _ (s .args .past) (s .pre .1))
+net-step-requires c κs =
+    let read = c .before .before .before in
+    omega (arith, nets-few _ _ (read .before .before .pre .1))
 
 returns : tie.Need-returns
 returns c = sym (row-stray _ _ (said _ _ (sym (c .enum-told .given .1) ∙ c .before .before .record-at .ensures)))
 
 returns-2 : tie.Need-returns-2
-returns-2 c = c .board-step .ensures ∙ sym (row-board _ _ (said _ _ (sym (c .before .before .width .given .1) ∙ c .before .before .before .before .record-at .ensures)))
+returns-2 c =
+    let board = c .before .before in
+    c .board-step .ensures ∙ sym (row-board _ _ (said _ _ (sym (board .width .given .1) ∙ board .before .before .record-at .ensures)))
 
 returns-3 : tie.Need-returns-3
 returns-3 c =
-    let s = c .before .before .before .before .before .before in
-    let this = said _ _ (sym (c .before .before .left .given .1) ∙ c .before .before .before .before .record-at .ensures) in
-    rw (row-keepout (now (s .args .job)) (s .args .i) (s .args .past) (s .pre .1) this) (c .keepout-step .ensures)
+    let keepout = c .before .before in
+    let read = keepout .before .before in
+    let this = said _ _ (sym (keepout .left .given .1) ∙ read .record-at .ensures) in
+    rw (row-keepout _ _ (read .before .before .pre .1) this) (c .keepout-step .ensures)
 
 returns-4 : tie.Need-returns-4
 returns-4 c =
-    let s = c .before .before .before .before .before .before in
-    let this = said _ _ (sym (c .before .before .number .given .1) ∙ c .before .before .before .before .record-at .ensures) in
-    rw (row-net (now (s .args .job)) (s .args .i) (s .args .past) (s .pre .1) this) (c .net-step .ensures)
+    let net = c .before .before in
+    let read = net .before .before in
+    let this = said _ _ (sym (net .number .given .1) ∙ read .record-at .ensures) in
+    rw (row-net _ _ (read .before .before .pre .1) this) (c .net-step .ensures)
 
 pub judge-spec : {M : Type 1} → statement M
 judge-spec =

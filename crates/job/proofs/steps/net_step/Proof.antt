@@ -1,9 +1,8 @@
 -- `job::steps::net_step` judges a net record by 12, 17, then 16.
-use mathlib.Core.Path.{sym}
 use mathlib.Core.Bool.{_&&_}
 use borrow.Author.Needs.{needs}
-use borrow.Author.Tests.{not-true, not-false}
-use Rattle.job.proofs.Stepping.{net-first, net-unordered, net-off, net-next}
+use borrow.Author.Tests.{not-true, not-false, eq-eqb, ne-eqb}
+use Rattle.job.specs.Steps.{netStep}
 use Rattle.job.proofs.steps.net_step.Statement.{statement}
 use Rattle.job.proofs.steps.net_step.Tie as tie
 
@@ -14,27 +13,31 @@ is-vertex-requires-2 : tie.Need-is-vertex-requires-2
 is-vertex-requires-2 c κs = search needs
 
 returns : tie.Need-returns
-returns c = sym (net-first _ _ _ _ _ _ _ (c .if1 .taken))
+unfolding netStep
+returns c = rw (eq-eqb _ 0 (c .if1 .taken))
 
 returns-2 : tie.Need-returns-2
-returns-2 c = sym (net-unordered _ _ _ _ _ _ _ (c .before .if1 .left) (c .if2 .taken))
+unfolding netStep
+returns-2 c = rw (ne-eqb _ 0 (c .before .if1 .left), c .if2 .taken)
 
 returns-3 : tie.Need-returns-3
+unfolding netStep
 returns-3 c =
     let k = c .before .before .before in
     let off =
     rw (k .before .is-vertex .ensures, k .is-vertex2 .ensures) at (not-true (k .before .is-vertex .result && k .is-vertex2 .result) (c .if3 .taken)) in
-    sym (net-off _ _ _ _ _ _ _ (c .before .before .if1 .left) (c .before .if2 .left) off)
+    rw (ne-eqb _ 0 (c .before .before .if1 .left), c .before .if2 .left, off)
 
 add-t18 : tie.Need-add-t18
 add-t18 c = search needs
 
 returns-4 : tie.Need-returns-4
+unfolding netStep
 returns-4 c =
     let k = c .before .before .before in
     let on =
     rw (k .before .is-vertex .ensures, k .is-vertex2 .ensures) at (not-false (k .before .is-vertex .result && k .is-vertex2 .result) (c .if3 .left)) in
-    sym (net-next _ _ _ _ _ _ _ (c .before .before .if1 .left) (c .before .if2 .left) on)
+    rw (ne-eqb _ 0 (c .before .before .if1 .left), c .before .if2 .left, on)
 
 pub net-step-spec : {M : Type 1} → statement M
 net-step-spec =

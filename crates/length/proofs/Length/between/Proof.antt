@@ -1,20 +1,55 @@
--- `length::Length::between` takes the leg by its vertices and gives its length.
-use mathlib.Core.Path.{sym, ap, _∙_, subst}
+-- `length::Length::between` hands back the units between vertices that pass, or the row that refuses them.
+use mathlib.Core.Path.{_≡_}
+use lib.IntN.{ℤ}
 use borrow.Author.Needs.{needs}
-use Rattle.length.specs.Legs.{Short}
-use Rattle.length.specs.Paper.{lengthRow}
-use Rattle.length.proofs.Legs.{vertices-short}
+use Rattle.board.specs.Handed.{passes}
+use Rattle.length.specs.Units.{units}
+use Rattle.board.proofs.Verdicts.{accepted, refused-row, refusal-handed}
+use Rattle.length.specs.Legs.{step, vertexRows}
+use Rattle.length.specs.Answers.{noLength, lengthBetweenRow}
+use Rattle.length.proofs.Legs.{OnLargest, small-as, small-both, vertices-on}
 use Rattle.length.proofs.Length.between.Statement.{statement}
 use Rattle.length.proofs.Length.between.Tie as tie
 
-by-vertices-requires : tie.Need-by-vertices-requires
-by-vertices-requires c κs = search needs
+pass : (c : tie.After-enum-told) → let a = c .before .before .before .args in vertexRows (a .ax) (a .ay) (a .bx) (a .by) ≡ passes
+pass c = accepted (c .enum-told .given .1) (c .before .before .check-vertices .ensures)
 
-length-of-requires : tie.Need-length-of-requires
-length-of-requires c κs = subst Short (sym (c .by-vertices .ensures)) (vertices-short _ _ _ _)
+-- both vertices are on the largest board
+on : (c : tie.After-enum-told) → let a = c .before .before .before .args in OnLargest (a .ax) (a .ay) × OnLargest (a .bx) (a .by)
+on c = vertices-on _ _ _ _ (pass c)
+
+difference-requires : tie.Need-difference-requires
+difference-requires c κs = let o = on c in search needs
+
+difference-requires-2 : tie.Need-difference-requires-2
+difference-requires-2 c κs = let o = on (c .before) in search needs
+
+units-of-requires : tie.Need-units-of-requires
+units-of-requires c κs = (small-as (c .before .difference .result) (c .before .difference .ensures .1), small-as (c .difference2 .result) (c .difference2 .ensures .1))
 
 returns : tie.Need-returns
-returns c = c .length-of .ensures ∙ ap lengthRow (c .before .by-vertices .ensures)
+unfolding lengthBetweenRow
+returns c =
+    let k = c .before in
+    let told = k .before .before in
+    let a = told .before .before .before .args in
+    let dx = k .before .difference .ensures in
+    let dy = k .difference2 .ensures in
+    rw (pass told, c .units-of .ensures, small-both (λ (dx dy : ℤ). units dx dy) (step (a .ax) (a .bx)) (step (a .ay) (a .by)) (dx .0) (dy .0) (dx .1) (dy .1))
+
+returns-2 : tie.Need-returns-2
+unfolding lengthBetweenRow
+returns-2 c = let k = c .before in refusal-handed noLength (k .why .given .0 .0) _ (refused-row (k .why .given .1) (k .before .before .check-vertices .ensures))
 
 pub between-spec : {M : Type 1} → statement M
-between-spec = tie.close (tie.spec by-vertices-requires length-of-requires returns)
+between-spec =
+    tie.close
+    (tie.spec
+    (λ c κs. search needs)
+    (λ c. search needs)
+    difference-requires
+    difference-requires-2
+    units-of-requires
+    (λ c. search needs)
+    returns
+    returns-2)

@@ -1,24 +1,49 @@
--- `length::Length::of` takes the leg by its differences and gives its length.
-use mathlib.Core.Path.{_≡_, sym, ap, _∙_, subst}
+-- `length::Length::of` hands back the units of differences that pass, or the row that refuses them.
+use mathlib.Core.Path.{_≡_, _∙_}
+use lib.IntN.{ℤ}
 use borrow.Author.Needs.{needs}
-use Rattle.length.specs.Legs.{legByDifferences, Short}
-use Rattle.length.specs.Paper.{lengthRow}
-use Rattle.length.proofs.Legs.{differences-short, differences-as}
+use Rattle.board.specs.Handed.{passes, verdict}
+use Rattle.length.specs.Units.{units}
+use Rattle.board.proofs.Verdicts.{accepted, refused-row, refusal-handed}
+use Rattle.length.specs.Legs.{differenceRows}
+use Rattle.length.specs.Answers.{noLength, lengthRow}
+use Rattle.length.proofs.Signed.{narrow, narrowed}
+use Rattle.length.proofs.Legs.{small-as, differences-small}
 use Rattle.length.proofs.Length.of.Statement.{statement}
 use Rattle.length.proofs.Length.of.Tie as tie
 
-by-differences-requires : tie.Need-by-differences-requires
-by-differences-requires c κs = search needs
+-- what the check said of the differences
+judged : (c : tie.After-check-differences) → let a = c .before .args in verdict (c .check-differences .result) ≡ differenceRows (a .dx) (a .dy)
+judged c = let s = c .before in c .check-differences .ensures ∙ narrowed (λ (dx dy : ℤ). differenceRows dx dy) (s .args .dx) (s .args .dy) (s .fits .dx) (s .fits .dy)
 
--- the leg that the call was given
-given : (c : tie.After-by-differences) → c .by-differences .result ≡ legByDifferences (c .before .args .dx) (c .before .args .dy)
-given c = let s = c .before in differences-as (s .args .dx) (s .args .dy) (s .fits .dx) (s .fits .dy) (c .by-differences .ensures)
+pass : (c : tie.After-enum-told) → let a = c .before .before .before .args in differenceRows (a .dx) (a .dy) ≡ passes
+pass c = accepted (c .enum-told .given .1) (judged (c .before .before))
 
-length-of-requires : tie.Need-length-of-requires
-length-of-requires c κs = subst Short (sym (given c)) (differences-short _ _)
+units-of-requires : tie.Need-units-of-requires
+units-of-requires c κs =
+    let s = c .before .before .before in
+    let d = differences-small (s .args .dx) (s .args .dy) (pass c) in
+    let x = small-as (s .args .dx) (d .0) in
+    let y = small-as (s .args .dy) (d .1) in
+    search needs
 
 returns : tie.Need-returns
-returns c = c .length-of .ensures ∙ ap lengthRow (given (c .before))
+unfolding lengthRow
+returns c =
+    let s = c .before .before .before .before in
+    rw (pass (c .before), c .units-of .ensures, narrow (s .args .dx) (s .fits .dx), narrow (s .args .dy) (s .fits .dy))
+
+returns-2 : tie.Need-returns-2
+unfolding lengthRow
+returns-2 c = let k = c .before in refusal-handed noLength (k .why .given .0 .0) _ (refused-row (k .why .given .1) (judged (k .before .before)))
 
 pub of-spec : {M : Type 1} → statement M
-of-spec = tie.close (tie.spec by-differences-requires length-of-requires returns)
+of-spec =
+    tie.close
+    (tie.spec
+    (λ c κs. search needs)
+    (λ c. search needs)
+    units-of-requires
+    (λ c. search needs)
+    returns
+    returns-2)

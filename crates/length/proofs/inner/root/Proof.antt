@@ -3,7 +3,7 @@ use mathlib.Core.Logic.{⊎-elim}
 use Prim.Native.Nat.{_*_, _-_, _/_, _<_}
 use native.Mathlib.Omega.{arith}
 use lib.Count.{leadingZeros}
-use Rattle.length.proofs.Digits.{word, Digits, skip-short, digits-start, digits-end, root-short, remainder-short, remainder-shift, root-shift, root-double, pair, digit-0, digit-1}
+use Rattle.length.proofs.inner.Digits.{word, Digits, skip-short, digits-start, digits-end, root-short, remainder-short, remainder-shift, root-shift, root-double, pair, digit-0, digit-1}
 use Rattle.length.proofs.inner.root.Statement.{statement}
 use Rattle.length.proofs.inner.root.Tie as tie
 

@@ -6,8 +6,8 @@ use native.Mathlib.Omega.{arith}
 use denote.Ref.{now}
 use lib.ListN.{length, take, drop, length-set}
 use Rattle.reach.specs.Turns.{at}
-use Rattle.search.specs.Search.{trail}
-use Rattle.search.proofs.Reading.{path-length, path-first, path-last, path-later, path-prev, write-none, write-more}
+use Rattle.theta.specs.Search.{trail}
+use Rattle.theta.proofs.Reading.{path-length, path-first, path-last, path-later, path-prev, write-none, write-more}
 use Rattle.search.proofs.inner.write_path.Statement.{statement}
 use Rattle.search.proofs.inner.write_path.Tie as tie
 

@@ -1,24 +1,23 @@
 -- `search::round::look` does what the definition does for one vertex, and keeps the arrays right.
-use mathlib.Core.Path.{_≡_, sym, ap, _∙_}
+use mathlib.Core.Path.{_≡_, ap, _∙_}
 use mathlib.Core.Logic.{⊎-elim, _≢_}
 use mathlib.Core.Bool.{cond}
-use Prim.Native.Nat.{ℕ, _+_, _/_, _^_, _≤_, _<_}
+use Prim.Native.Nat.{ℕ, _+_, _^_, _≤_, _<_}
 use native.Mathlib.Omega.{arith}
 use borrow.Author.Needs.{needs}
 use borrow.Author.Tests.{not-true, not-false}
 use denote.Ref.{now}
 use lib.ListN.{length, length-set}
-use Rattle.board.specs.Limits.{side, mostVertices}
+use Rattle.board.specs.Limits.{mostVertices}
 use Rattle.sight.specs.Sight.{sees}
+use Rattle.table.proofs.Table.{known-leg}
 use Rattle.reach.specs.Turns.{at}
-use Rattle.search.specs.Search.{Problem}
-use Rattle.search.specs.Request.{problem, boardOf, asked, sizeOf, Placed, largest}
-use Rattle.search.specs.Rows.{block}
-use Rattle.search.proofs.Rows.{champion-le}
-use Rattle.search.proofs.Rounds.{look-far, look-done, look-won, look-lost, fell, ready-candidate}
+use Rattle.theta.specs.Search.{Problem}
+use Rattle.search.specs.Problem.{problem}
+use Rattle.search.specs.Request.{boardOf, asked, sizeOf, Placed, largest}
+use Rattle.theta.proofs.Rounds.{look-far, look-done, look-won, look-lost, fell, ready-candidate}
 use Rattle.search.proofs.Sizes.{vertices-most, largest-fits, leg-longest}
-use Rattle.search.proofs.Places.{rising-rows, rising-blocks, placed-below, placed-cond, len-placed, candidate-number, beside-neighbours, beside-near}
-use Rattle.search.proofs.Settled.{settled-arrays}
+use Rattle.search.proofs.round.Places.{placed-below, placed-cond, len-said, candidate-number, beside-neighbours, near-said}
 use Rattle.search.proofs.round.look.Statement.{statement}
 use Rattle.search.proofs.round.look.Tie as tie
 
@@ -34,16 +33,16 @@ on s = placed-below (s .pre .1 .0 .placed)
 
 slice-read-mark : tie.Need-slice-read-mark
 unfolding problem
-slice-read-mark c = let s = c .before .before .before .before .before in omega (arith, on s, s .pre .0 .ready .room-m)
+slice-read-mark c = let s = c .before .before .before .before .before .before .before .before in omega (arith, on s, s .pre .0 .ready .room-m)
 
 returns : tie.Need-returns
 returns c =
-    let s = c .before .before .before .before .before .before in
+    let s = c .before .before .before .before .before .before .before .before .before in
     let a = s .args in
-    (look-done (asking s) (a .u .number) (a .w .number) (now (a .g)) (now (a .parents)) (now (a .marks)) (a .tests) (c .if1 .taken), s .pre .1 .1 .1)
+    (look-done (asking s) (a .u .number) (a .w .number) (now (a .g)) (now (a .parents)) (now (a .marks)) (a .tests) (c .if1 .taken), s .pre .1 .1 .1 .0)
 
 abbrev start : tie.Else1 → tie.Start
-start k = k .before .before .before .before .before .before
+start k = k .before .before .before .before .before .before .before .before .before
 
 -- the vertex is not the taken one, which is expanded
 apart : (k : tie.Else1) → start k .args .w .number ≢ start k .args .u .number
@@ -62,8 +61,9 @@ returns-2 c =
     let k = c .before .before in
     let s = start k in
     let a = s .args in
-    let far = beside-near (s .pre .0 .placed) (s .pre .1 .0) (apart k) ∙ sym (c .before .sees-neighbour .ensures) ∙ not-true (c .before .sees-neighbour .result) (c .if2 .taken) in
-    (look-far (asking s) (a .u .number) (a .w .number) (now (a .g)) (now (a .parents)) (now (a .marks)) (a .tests) far, s .pre .1 .1 .1)
+    let n = c .before .sees-neighbour in
+    let far = near-said (s .pre .0 .placed) (s .pre .1 .0) (apart k) (n .ensures) (not-true (n .result) (c .if2 .taken)) in
+    (look-far (asking s) (a .u .number) (a .w .number) (now (a .g)) (now (a .parents)) (now (a .marks)) (a .tests) far, s .pre .1 .1 .1 .0)
 
 candidate-requires : tie.Need-candidate-requires
 candidate-requires c κs = search needs
@@ -101,15 +101,17 @@ slice-read-own c = let k = c .before in omega (arith, from-on k .0, start (k .be
 
 units-between-requires : tie.Need-units-between-requires
 units-between-requires c κs =
-    let k = c .before .before in
+    let k = c .before in
     let s = start (k .before .before .before) in
-    (omega (arith, from-placed k .on, s .pre .1 .0 .placed .on, s .pre .0 .asked-for .sound), s .pre .1 .1 .1 .known)
+    let F = from-placed k .on in
+    let W = s .pre .1 .0 .placed .on in
+    (omega (arith, F, W, s .pre .0 .asked-for .sound), known-leg (s .pre .1 .1 .1 .1) (F .x-on) (F .y-on) (W .x-on) (W .y-on))
 
 -- the candidate g
-own-small : (j : tie.After-units-between) → let k = j .before .before .before in
+own-small : (j : tie.After-units-between) → let k = j .before .before in
     at (now (start (k .before .before .before) .args .g)) (k .candidate .result .number) + j .units-between .result < 2 ^ 63
 own-small j =
-    let k = j .before .before .before in
+    let k = j .before .before in
     let s = start (k .before .before .before) in
     let q = s .args .request in
     let F = from-placed k .on in
@@ -118,7 +120,7 @@ own-small j =
     omega (
       arith,
       from-on k .1,
-      j .units-between .ensures .0,
+      j .units-between .ensures,
       leg-longest (q .width) (q .height) (k .candidate .result .x) (k .candidate .result .y) (s .args .w .x) (s .args .w .y) (F .x-on) (F .y-on) (P .x-on) (P .y-on),
       largest-fits (q .width) (q .height) (A .narrow) (A .low),
     )
@@ -127,82 +129,85 @@ add-own : tie.Need-add-own
 add-own c = omega (arith, own-small c)
 
 mul-old : tie.Need-mul-old
-mul-old c = let s = start (c .before .before .before .before .before .before) in omega (arith, on s, few s)
+mul-old c = let s = start (c .before .before .before .before .before) in omega (arith, on s, few s)
 
 slice-read-old : tie.Need-slice-read-old
 unfolding problem
-slice-read-old c = let s = start (c .before .before .before .before .before .before .before) in omega (arith, on s, s .pre .0 .ready .room-g)
+slice-read-old c = let s = start (c .before .before .before .before .before .before) in omega (arith, on s, s .pre .0 .ready .room-g)
 
 settle-requires : tie.Need-settle-requires
 unfolding problem
 settle-requires c κs =
-    let t = c .before .before .before .before .before .before .before in
+    let t = c .before .before .before .before .before in
     let j = t .before .before in
-    let k = j .before .before .before in
+    let k = j .before .before in
     let s = start (k .before .before .before) in
     let A = s .pre .0 .asked-for in
     let P = s .pre .1 .0 .placed in
-    let R = s .pre .0 .ready in
-    let D = s .pre .1 .1 .1 in
-    let row : s .args .w .y < s .args .request .height + 1 = omega (arith, P .on .y-on) in (
+    let a = s .args in (
       record {
-        fitting = record { narrow = A .sound .narrow; low = A .sound .low; goal-x = A .goal .x-on; goal-y = A .goal .y-on; row = P .on .y-on };
-        column = P .on .x-on;
-        on = on s;
+        sited = record {
+          narrow = A .sound .narrow;
+          low = A .sound .low;
+          column = P .on .x-on;
+          row = P .on .y-on;
+          goal-x = A .goal .x-on;
+          goal-y = A .goal .y-on;
+        };
+        lower = record {
+          is = P .numbered;
+          small = own-small j;
+          less = λ o. fell (at (now (a .marks)) (a .w .number)) _ (at (now (a .g)) (a .w .number)) (t .if3 .taken) o;
+        };
         on-parent = from-on k .0;
-        small = own-small j;
-        room-g = R .room-g;
-        room-p = R .room-p;
-        room-m = R .room-m;
-        row-champion = champion-le (D .rows) (rising-rows (now (s .args .cells)) (s .args .request)) (s .args .w .y) (omega arith) row;
-        block-champion = champion-le (D .blocks) (rising-blocks (now (s .args .cells)) (s .args .request)) (side + 1 + s .args .w .y / block) (omega arith)
-            (omega (arith, row));
-        margin = omega (arith, D .margined .room, row);
+        room-p = s .pre .0 .ready .room-p;
       },
-      j .units-between .ensures .1,
+      (s .pre .1 .1 .1 .0, s .pre .1 .1 .1 .1),
     )
 
 add-result : tie.Need-add-result
 add-result c = search needs
 
 same-length : tie.Need-same-length
-same-length c = ⊎-elim (λ w. ap length (w .15 ∙ w .8 .ensures .0 .g-is) ∙ simp length-set) (λ w. ap length (w .1)) (c .if3 .came)
+same-length c = ⊎-elim (λ w. ap length (w .17 ∙ w .6 .ensures .g-is) ∙ simp length-set) (λ w. ap length (w .1)) (c .if3 .came)
 
 same-length-2 : tie.Need-same-length-2
-same-length-2 c = ⊎-elim (λ w. ap length (w .16 ∙ w .8 .ensures .0 .parent-is) ∙ simp length-set) (λ w. ap length (w .2)) (c .if3 .came)
+same-length-2 c = ⊎-elim (λ w. ap length (w .18 ∙ w .6 .ensures .parent-is) ∙ simp length-set) (λ w. ap length (w .2)) (c .if3 .came)
 
 same-length-3 : tie.Need-same-length-3
-same-length-3 c = ⊎-elim (λ w. ap length (w .17 ∙ w .8 .ensures .0 .mark-is) ∙ simp length-set) (λ w. ap length (w .3)) (c .if3 .came)
+same-length-3 c = ⊎-elim (λ w. ap length (w .19 ∙ w .6 .ensures .mark-is) ∙ simp length-set) (λ w. ap length (w .3)) (c .if3 .came)
+
+same-length-4 : tie.Need-same-length-4
+same-length-4 c = ⊎-elim (λ w. ap length (w .20) ∙ w .6 .kept .1 .1 .1 .1 .1 .1 .1 .0) (λ w. ap length (w .4)) (c .if3 .came)
+
+same-length-5 : tie.Need-same-length-5
+same-length-5 c = ⊎-elim (λ w. ap length (w .21) ∙ w .6 .kept .1 .1 .1 .1 .1 .1 .1 .1 .0) (λ w. ap length (w .5)) (c .if3 .came)
 
 returns-3 : tie.Need-returns-3
 unfolding problem
 returns-3 c =
     let j = c .before .before in
-    let k = j .before .before .before in
+    let k = j .before .before in
     let f = k .before .before in
     let e = k .before .before .before in
     let s = start e in
     let a = s .args in
     let P = s .pre .1 .0 in
-    let near = beside-near (s .pre .0 .placed) P (apart e) ∙ sym (f .sees-neighbour .ensures) ∙ not-false (f .sees-neighbour .result) (k .before .if2 .left) in
+    let near = near-said (s .pre .0 .placed) P (apart e) (f .sees-neighbour .ensures) (not-false (f .sees-neighbour .result) (k .before .if2 .left)) in
     let g = now (a .g) in
     let m = now (a .marks) in
-    let own : at g (k .candidate .result .number) + j .units-between .result ≡ at g (k .candidate .result .number) + asking s .len (k .candidate .result .number) (a .w .number) =
-    ap (λ (x : ℕ). at g (k .candidate .result .number) + x) (j .units-between .ensures .0 ∙ sym (len-placed (now (a .cells)) (a .request) (from-placed k) (P .placed))) in
+    let own = len-said (now (a .cells)) (a .request) (from-placed k) (P .placed) (at g (k .candidate .result .number)) (j .units-between .ensures) in
     ⊎-elim
     (λ w.
-    let S = w .8 .ensures .0 in (
-      rw (w .15, w .16, w .17, S .g-is, S .parent-is, S .mark-is)
+    let S = w .6 .ensures in (
+      rw (w .17, w .18, w .19, S .g-is, S .parent-is, S .mark-is)
           (look-won (asking s) (a .u .number) (a .w .number) g (now (a .parents)) m (a .tests) near (e .if1 .left) (k .candidate .result .number) _ (from-is k) own (w .0 .taken)),
-      rw (w .15, w .17, w .18, w .19, w .20, w .21)
-          (settled-arrays (s .pre .0 .asked-for) (P .placed) (s .pre .0 .ready .room-g) (s .pre .0 .ready .room-m)
-          (λ o. fell (at m (a .w .number)) _ (at g (a .w .number)) (w .0 .taken) o) (s .pre .1 .1 .1) S (w .8 .ensures .1)),
+      rw (w .17, w .19, w .20, w .21) (S .listed),
     ))
     (λ w. (
       rw (w .1, w .2, w .3)
           (look-lost (asking s) (a .u .number) (a .w .number) g (now (a .parents)) m (a .tests) near (e .if1 .left) (k .candidate .result .number) _ (from-is k) own (w .0 .left)),
-      rw (w .1, w .3, w .4, w .5, w .6, w .7)
-          (record { rows = s .pre .1 .1 .1 .rows; blocks = s .pre .1 .1 .1 .blocks; margined = s .pre .1 .1 .1 .margined; known = j .units-between .ensures .1 }),
+      rw (w .1, w .3, w .4, w .5) (s .pre .1 .1 .1 .0),
     ))
     (c .if3 .came)
 
@@ -226,4 +231,6 @@ look-spec =
     same-length
     same-length-2
     same-length-3
+    same-length-4
+    same-length-5
     returns-3)

@@ -7,85 +7,76 @@ use lib.ListN.{length}
 use Rattle.board.specs.Limits.{mostVertices}
 use Rattle.board.specs.Board.{numberOf}
 use Rattle.board.proofs.Numbers.{number-below}
+use Rattle.open.proofs.Grouping.{root-room}
 use Rattle.search.specs.Request.{sizeOf}
 use Rattle.search.proofs.Sizes.{vertices-most}
-use Rattle.search.proofs.Finding.{Finding, wholeFrom, finding-start, finding-entries, finding-tests, finding-none, finding-found, finding-room, finding-taking, finding-next}
+use Rattle.search.proofs.turns.Finding.{Finding, wholeFrom, finding-start, finding-tests, finding-none, finding-found, finding-room, finding-taking, finding-next}
 use Rattle.search.proofs.turns.run.Statement.{statement}
 use Rattle.search.proofs.turns.run.Tie as tie
 
 abbrev Inv-turns : tie.InvT-turns
-Inv-turns cells request g₀ parents₀ marks₀ champions₀ keys₀ margins₀ table₀ none goal end expansions₀ tests₀ g parents marks champions keys margins table expansions tests = Finding cells request (wholeFrom cells request g₀ parents₀ marks₀) g parents marks champions keys margins table expansions tests
+Inv-turns cells request g₀ parents₀ marks₀ leads₀ keys₀ table goal expansions₀ tests₀ g parents marks leads keys expansions tests = Finding cells request (wholeFrom cells request g₀ parents₀ marks₀) g parents marks leads keys expansions tests
     × (length g ≡ length g₀) × (length parents ≡ length parents₀) × (length marks ≡ length marks₀)
+    × (length leads ≡ length leads₀) × (length keys ≡ length keys₀)
 
 abbrev μ-turns : tie.MeasureT-turns
-μ-turns cells request g₀ parents₀ marks₀ champions₀ keys₀ margins₀ table₀ none goal end expansions₀ tests₀ g parents marks champions keys margins table expansions tests = none - expansions
+μ-turns cells request g₀ parents₀ marks₀ leads₀ keys₀ table goal expansions₀ tests₀ g parents marks leads keys expansions tests = sizeOf request - expansions
 
 few : (s : tie.Start Inv-turns μ-turns) → sizeOf (s .args .request) ≤ mostVertices
 few s = vertices-most (s .args .request .width) (s .args .request .height) (s .pre .0 .sound .narrow) (s .pre .0 .sound .low)
 
-add-none : tie.Need-add-none Inv-turns μ-turns
-add-none c = omega (arith, c .before .before .before .before .before .pre .0 .sound .narrow)
-
-add-none-2 : tie.Need-add-none-2 Inv-turns μ-turns
-add-none-2 c = omega (arith, c .before .before .before .before .before .before .pre .0 .sound .low)
-
-mul-none : tie.Need-mul-none Inv-turns μ-turns
-mul-none c = omega (arith, few (c .before .before .before .before .before .before))
-
 number-of-requires : tie.Need-number-of-requires Inv-turns μ-turns
-number-of-requires c κs = let A = c .before .before .before .before .before .before .pre .0 in omega (arith, A .sound .narrow, A .goal, A .sound .low)
+number-of-requires c κs = let A = c .before .before .before .before .before .before .before .pre .0 in omega (arith, A .sound .narrow, A .goal, A .sound .low)
 
 cast-goal : tie.Need-cast-goal Inv-turns μ-turns
 cast-goal c =
-    let s = c .before .before .before .before .before .before .before in
+    let s = c .before .before .before .before .before .before .before .before in
     let q = s .args .request in
     let A = s .pre .0 in
     omega (arith, c .number-of .ensures, number-below (q .width) (q .height) (q .gx) (q .gy) (A .goal .x-on) (A .goal .y-on), few s)
 
-add-end : tie.Need-add-end Inv-turns μ-turns
-add-end c = omega (arith, c .before .before .before .before .before .before .before .before .pre .0 .sound .low)
-
-add-end-2 : tie.Need-add-end-2 Inv-turns μ-turns
-add-end-2 c = omega (arith, c .before .before .before .before .before .before .before .before .pre .0 .sound .low)
-
 turns-holds : tie.Need-turns-holds Inv-turns μ-turns
-turns-holds c = let s = c .before .before .before .before .before .before .before .before in (finding-start (s .pre .0) (s .pre .1 .0) (s .pre .1 .1), refl, refl, refl)
+turns-holds c = let s = c .before .before .before .before .before .before .before .before in (finding-start (s .pre .0) (s .pre .1 .0) (s .pre .1 .1 .0), refl, refl, refl, refl, refl)
 
 abbrev start : tie.At-turns Inv-turns μ-turns → tie.Start Inv-turns μ-turns
 start l = l .before .before .before .before .before .before .before .before .before
 
-pick-requires : tie.Need-pick-requires Inv-turns μ-turns
-pick-requires c κs = let l = c .before .before .before in finding-entries (start l .pre .0) (l .turns .inv .0)
+first-requires : tie.Need-first-requires Inv-turns μ-turns
+first-requires c κs =
+    let l = c .before .before in
+    let q = start l .args .request in
+    let A = start l .pre .0 .sound in
+    root-room (q .width) (q .height) (A .narrow) (A .low) (l .turns .inv .0 .listed .played)
 
 -- the places on the way: a vertex has been expanded, it is taken, its turn begins
-abbrev taken : tie.After-slice-known6 Inv-turns μ-turns → tie.Else2 Inv-turns μ-turns
-taken c = c .before .before .before .before .before .before .before .before .before .before .before .before .before .before
+abbrev taken : tie.After-slice-known10 Inv-turns μ-turns → tie.Else2 Inv-turns μ-turns
+taken c = c .before .before .before .before .before .before .before .before .before .before .before .before .before .before .before .before
 
 abbrev turn : tie.Else2 Inv-turns μ-turns → tie.At-turns Inv-turns μ-turns
 turn k = k .before .before .before .before .before .before
 
 -- a vertex is taken that is not the goal, and fewer are expanded than there are
-not-goal : (k : tie.Else2 Inv-turns μ-turns) → let q = start (turn k) .args .request in k .before .before .pick .result .vertex ≢ numberOf (q .width) (q .gx) (q .gy)
-not-goal k e = k .if2 .left (e ∙ sym (k .before .before .before .before .before .before .before .before .number-of .ensures))
+not-goal : (k : tie.Else2 Inv-turns μ-turns) → let q = start (turn k) .args .request in k .before .before .before .first .result .vertex ≢ numberOf (q .width) (q .gx) (q .gy)
+not-goal k e = k .if2 .left (e ∙ sym (turn k .before .number-of .ensures))
 
 more : (k : tie.Else2 Inv-turns μ-turns) → let l = turn k in l .turns .expansions + 1 ≤ sizeOf (start l .args .request)
 more k =
     let l = turn k in
-    omega (arith, finding-room (start l .pre .0) (l .turns .inv .0) (k .before .before .pick .ensures) (k .before .if1 .left) (not-goal k))
+    omega (arith, finding-room (start l .pre .0) (l .turns .inv .0) (k .before .before .before .first .ensures .0) (k .before .before .before .first .ensures .1) (k .before .if1 .left) (not-goal k))
 
 add-expansions : tie.Need-add-expansions Inv-turns μ-turns
 add-expansions c = let l = turn c in let s = start l in omega (arith, more c, few s)
 
 expand-requires : tie.Need-expand-requires Inv-turns μ-turns
 expand-requires c κs =
-    let k = c .before .before .before .before .before .before .before in
+    let k = c .before .before .before .before .before in
     let l = turn k in
     let A = start l .pre .0 in
     let W = l .turns .inv .0 in (
       A,
       (
-        finding-taking A W (k .before .before .pick .ensures) (k .before .if1 .left) (not-goal k),
-        (finding-tests A W, W .arrays),
+        finding-taking A W (k .before .before .before .first .ensures .0) (k .before .before .before .first .ensures .1) (k .before .if1 .left) (not-goal k),
+        (finding-tests A W, (W .listed, start l .pre .1 .1 .1)),
       ),
     )
 
@@ -94,13 +85,15 @@ turns-less c = let k = taken c in omega (arith, more k)
 
 turns-again : tie.Need-turns-again Inv-turns μ-turns
 turns-again c =
-    let o = c .before .before .before .before .before .before in
+    let o = c .before .before .before .before .before .before .before .before .before .before in
     let k = taken c in
     let l = turn k in (
-      finding-next (start l .pre .0) (l .turns .inv .0) (k .before .before .pick .ensures) (k .before .if1 .left) (not-goal k) (o .expand .ensures .0) (o .expand .ensures .1),
+      finding-next (start l .pre .0) (l .turns .inv .0) (k .before .before .before .first .ensures .0) (k .before .before .before .first .ensures .1) (k .before .if1 .left) (not-goal k) (o .expand .ensures .0) (o .expand .ensures .1),
       o .expand .kept .1 .1 .1 .1 .0 ∙ l .turns .inv .1,
       o .expand .kept .1 .1 .1 .1 .1 .0 ∙ l .turns .inv .2,
       o .expand .kept .1 .1 .1 .1 .1 .1 .0 ∙ l .turns .inv .3,
+      o .expand .kept .1 .1 .1 .1 .1 .1 .1 .0 ∙ l .turns .inv .4,
+      o .expand .kept .1 .1 .1 .1 .1 .1 .1 .1 .0 ∙ l .turns .inv .5,
     )
 
 same-length : tie.Need-same-length Inv-turns μ-turns
@@ -112,22 +105,34 @@ same-length-2 c = c .before .before .before .before .before .turns .inv .2
 same-length-3 : tie.Need-same-length-3 Inv-turns μ-turns
 same-length-3 c = c .before .before .before .before .before .turns .inv .3
 
-returns : tie.Need-returns Inv-turns μ-turns
-returns c = let l = c .before .before .before .before .before in finding-none (start l .pre .0) (l .turns .inv .0) (c .before .pick .ensures) (c .if1 .taken)
-
 same-length-4 : tie.Need-same-length-4 Inv-turns μ-turns
-same-length-4 c = c .before .before .before .before .before .before .turns .inv .1
+same-length-4 c = c .before .before .before .before .before .turns .inv .4
 
 same-length-5 : tie.Need-same-length-5 Inv-turns μ-turns
-same-length-5 c = c .before .before .before .before .before .before .turns .inv .2
+same-length-5 c = c .before .before .before .before .before .turns .inv .5
+
+returns : tie.Need-returns Inv-turns μ-turns
+returns c = let l = c .before .before .before .before .before in finding-none (start l .pre .0) (l .turns .inv .0) (c .before .before .first .ensures .0) (c .before .before .first .ensures .1) (c .if1 .taken)
 
 same-length-6 : tie.Need-same-length-6 Inv-turns μ-turns
-same-length-6 c = c .before .before .before .before .before .before .turns .inv .3
+same-length-6 c = c .before .before .before .before .before .before .turns .inv .1
+
+same-length-7 : tie.Need-same-length-7 Inv-turns μ-turns
+same-length-7 c = c .before .before .before .before .before .before .turns .inv .2
+
+same-length-8 : tie.Need-same-length-8 Inv-turns μ-turns
+same-length-8 c = c .before .before .before .before .before .before .turns .inv .3
+
+same-length-9 : tie.Need-same-length-9 Inv-turns μ-turns
+same-length-9 c = c .before .before .before .before .before .before .turns .inv .4
+
+same-length-10 : tie.Need-same-length-10 Inv-turns μ-turns
+same-length-10 c = c .before .before .before .before .before .before .turns .inv .5
 
 returns-2 : tie.Need-returns-2 Inv-turns μ-turns
 returns-2 c =
     let l = c .before .before .before .before .before .before in
-    finding-found (start l .pre .0) (l .turns .inv .0) (c .before .before .pick .ensures) (c .before .if1 .left) (c .if2 .taken ∙ l .before .before .number-of .ensures)
+    finding-found (start l .pre .0) (l .turns .inv .0) (c .before .before .before .first .ensures .0) (c .before .before .before .first .ensures .1) (c .before .if1 .left) (c .if2 .taken ∙ l .before .number-of .ensures)
 
 pub run-spec : {M : Type 1} → statement M
 run-spec =
@@ -135,15 +140,10 @@ run-spec =
     (tie.spec
     Inv-turns
     μ-turns
-    add-none
-    add-none-2
-    mul-none
     number-of-requires
     cast-goal
-    add-end
-    add-end-2
     turns-holds
-    pick-requires
+    first-requires
     add-expansions
     expand-requires
     turns-less
@@ -151,8 +151,12 @@ run-spec =
     same-length
     same-length-2
     same-length-3
-    returns
     same-length-4
     same-length-5
+    returns
     same-length-6
+    same-length-7
+    same-length-8
+    same-length-9
+    same-length-10
     returns-2)

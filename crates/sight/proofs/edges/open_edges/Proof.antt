@@ -1,4 +1,5 @@
--- `sight::edges::open_edges` counts the open edges of a leg: each need is a law of proofs/Edging.antt at the place's numbers.
+-- `sight::edges::open_edges` counts the open edges of a leg: each need is a law of proofs/edges/Counting.antt at the place's numbers.
+-- Invariant: no edge passed is walled. Measure: the edges left.
 use Prim.Native.Nat.{_-_}
 use mathlib.Core.Path.{_≡_, sym, _∙_}
 use mathlib.Core.Bool.{Bool}
@@ -10,7 +11,7 @@ use Rattle.board.specs.Board.{board}
 use Rattle.sight.specs.Leg.{cellAt}
 use Rattle.sight.specs.Stops.{walled}
 use Rattle.sight.proofs.Axis.{axis-on}
-use Rattle.sight.proofs.Edging.{AtEdge, edges-done, edge-passed, edges-stopped}
+use Rattle.sight.proofs.edges.Counting.{AtEdge, edges-done, edge-passed, edges-stopped}
 use Rattle.sight.proofs.edges.open_edges.Statement.{statement}
 use Rattle.sight.proofs.edges.open_edges.Tie as tie
 
@@ -19,6 +20,19 @@ Inv-edges cells width height level c p q n u₀ u = AtEdge (board cells width he
 
 abbrev μ-edges : tie.MeasureT-edges
 μ-edges cells width height level c p q n u₀ u = n - u
+
+-- the edge's place, where it has been looked at, and the call's start
+abbrev here : tie.After-is-walled Inv-edges μ-edges → tie.At-edges Inv-edges μ-edges
+here d = d .before .before .before
+
+abbrev begun : tie.At-edges Inv-edges μ-edges → tie.Start Inv-edges μ-edges
+begun t = t .before .before .before
+
+-- what `is_walled` said, of the edge's place on the leg
+heard : {x : Bool} (d : tie.After-is-walled Inv-edges μ-edges) → d .is-walled .result ≡ x →
+    let a = begun (here d) .args in
+    walled (board (now (a .cells)) (a .width) (a .height)) (a .level) (a .c) (cellAt (a .p) (a .q) (here d .edges .u)) ≡ x
+heard d e = rw (← (d .before .cell .ensures)) (sym (d .is-walled .ensures) ∙ e)
 
 distance-requires : tie.Need-distance-requires Inv-edges μ-edges
 distance-requires c κs = search needs
@@ -32,7 +46,7 @@ cell-requires c κs = search needs
 is-walled-requires : tie.Need-is-walled-requires Inv-edges μ-edges
 is-walled-requires c κs =
     let t = c .before .before in
-    let s = t .before .before .before in
+    let s = begun t in
     let a = s .args in
     let on = axis-on (a .p) (a .q) (t .edges .u) (omega arith) _ (s .pre .1 .1 .0) (s .pre .1 .1 .1) in
     (s .pre .0, (s .pre .1 .0, rw (c .cell .ensures) on))
@@ -43,25 +57,14 @@ add-u c = omega arith
 edges-less : tie.Need-edges-less Inv-edges μ-edges
 edges-less c = omega arith
 
--- what `is_walled` said, of the edge's place on the leg
-heard : {x : Bool} (d : tie.After-is-walled Inv-edges μ-edges) → d .is-walled .result ≡ x →
-    let t = d .before .before .before in
-    let a = t .before .before .before .args in
-    walled (board (now (a .cells)) (a .width) (a .height)) (a .level) (a .c) (cellAt (a .p) (a .q) (t .edges .u)) ≡ x
-heard d e = rw (← (d .before .cell .ensures)) (sym (d .is-walled .ensures) ∙ e)
-
 edges-again : tie.Need-edges-again Inv-edges μ-edges
-edges-again c =
-    let d = c .before in
-    edge-passed (d .before .before .before .edges .inv) (omega arith) (heard d (c .if2 .left))
+edges-again c = edge-passed (here (c .before) .edges .inv) (omega arith) (heard (c .before) (c .if2 .left))
 
 returns : tie.Need-returns Inv-edges μ-edges
 returns c = edges-done (c .before .edges .inv) (c .if1 .taken)
 
 returns-2 : tie.Need-returns-2 Inv-edges μ-edges
-returns-2 c =
-    let d = c .before in
-    edges-stopped (d .before .before .before .edges .inv) (omega arith) (heard d (c .if2 .taken))
+returns-2 c = edges-stopped (here (c .before) .edges .inv) (omega arith) (heard (c .before) (c .if2 .taken))
 
 pub open-edges-spec : {M : Type 1} → statement M
 open-edges-spec =

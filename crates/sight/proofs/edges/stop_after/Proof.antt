@@ -3,7 +3,8 @@ use mathlib.Core.Path.{sym, _∙_, ap₂}
 use borrow.Author.Needs.{needs}
 use borrow.Author.Tests.{eq-eqb, ne-eqb}
 use Rattle.sight.specs.Leg.{far}
-use Rattle.sight.specs.Stops.{edgeFrom, stopAfter}
+use Rattle.sight.specs.Stops.{edgeFrom}
+use Rattle.sight.specs.Edges.{stopAfter}
 use Rattle.sight.proofs.edges.stop_after.Statement.{statement}
 use Rattle.sight.proofs.edges.stop_after.Tie as tie
 

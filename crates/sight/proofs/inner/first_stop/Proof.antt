@@ -1,11 +1,13 @@
 -- `sight::inner::first_stop` takes the walk of the leg's direction, and says what it stopped at.
-use mathlib.Core.Path.{sym, ap, _∙_}
+use mathlib.Core.Path.{_≡_}
 use borrow.Author.Needs.{needs}
 use borrow.Author.Tests.{eq-eqb, ne-eqb}
 use denote.Ref.{now}
 use Rattle.board.specs.Board.{Board, board}
-use Rattle.sight.specs.Stops.{stopAt, stopAfter, firstStop}
-use Rattle.sight.proofs.Edging.{open-on, edges-stop}
+use Rattle.sight.specs.Stops.{firstStop}
+use Rattle.sight.specs.Walk.{stopAt}
+use Rattle.sight.proofs.edges.Counting.{open-on}
+use Rattle.sight.proofs.inner.Walked.{stop-level, stop-upright, stop-slanted}
 use Rattle.sight.proofs.inner.first_stop.Statement.{statement}
 use Rattle.sight.proofs.inner.first_stop.Tie as tie
 
@@ -23,13 +25,11 @@ stop-after-requires c κs =
     rw (c .open-edges .ensures) (open-on (asked s) _ (a .ay) (a .ax) (a .bx))
 
 returns : tie.Need-returns
-unfolding firstStop
 returns c =
     let d = c .before .before in
     let s = d .before .before in
     let a = s .args in
-    rw (eq-eqb _ _ (d .if1 .taken))
-    (c .stop-after .ensures ∙ ap (stopAfter _ (a .ay) (a .ax) (a .bx)) (c .before .open-edges .ensures) ∙ sym (edges-stop (asked s) _ (a .ay) (a .ax) (a .bx)))
+    stop-level (asked s) (a .ax) (a .ay) (a .bx) (a .by) (d .if1 .taken) (c .before .open-edges .result) (c .stop-after .result) (c .before .open-edges .ensures) (c .stop-after .ensures)
 
 open-edges-requires-2 : tie.Need-open-edges-requires-2
 open-edges-requires-2 c κs = search needs
@@ -41,22 +41,30 @@ stop-after-requires-2 c κs =
     rw (c .open-edges2 .ensures) (open-on (asked s) _ (a .ax) (a .ay) (a .by))
 
 returns-2 : tie.Need-returns-2
-unfolding firstStop
 returns-2 c =
     let d = c .before .before in
     let s = d .before .before .before in
     let a = s .args in
-    rw (ne-eqb _ _ (d .before .if1 .left), eq-eqb _ _ (d .if2 .taken))
-    (c .stop-after2 .ensures ∙ ap (stopAfter _ (a .ax) (a .ay) (a .by)) (c .before .open-edges2 .ensures) ∙ sym (edges-stop (asked s) _ (a .ax) (a .ay) (a .by)))
+    stop-upright (asked s) (a .ax) (a .ay) (a .bx) (a .by) (d .before .if1 .left) (d .if2 .taken) (c .before .open-edges2 .result) (c .stop-after2 .result) (c .before .open-edges2 .ensures) (c .stop-after2 .ensures)
 
 first-blocked-requires : tie.Need-first-blocked-requires
 first-blocked-requires c κs = search needs
 
+-- what the index of the walk over the cells stands for
+walked : (c : tie.After-first-blocked) →
+    let d = c .before in
+    let s = d .before .before .before in
+    let a = s .args in
+    stopAt (asked s) (c .first-blocked .result) ≡ firstStop (asked s) (a .ax) (a .ay) (a .bx) (a .by)
+walked c =
+    let d = c .before in
+    let s = d .before .before .before in
+    let a = s .args in
+    stop-slanted (asked s) (a .ax) (a .ay) (a .bx) (a .by) (d .before .if1 .left) (d .if2 .left) (c .first-blocked .result) (c .first-blocked .ensures)
+
 returns-3 : tie.Need-returns-3
-unfolding firstStop stopAt
-returns-3 c =
-    let d = c .before .before in
-    rw (ne-eqb _ _ (d .before .if1 .left), ne-eqb _ _ (d .if2 .left)) (rw (eq-eqb _ _ (c .if3 .taken)) at (c .before .first-blocked .ensures))
+unfolding stopAt
+returns-3 c = rw (eq-eqb _ _ (c .if3 .taken)) at (walked (c .before))
 
 rem-t12 : tie.Need-rem-t12
 rem-t12 c = search needs
@@ -65,10 +73,8 @@ div-t13 : tie.Need-div-t13
 div-t13 c = search needs
 
 returns-4 : tie.Need-returns-4
-unfolding firstStop stopAt
-returns-4 c =
-    let d = c .before .before in
-    rw (ne-eqb _ _ (d .before .if1 .left), ne-eqb _ _ (d .if2 .left)) (rw (ne-eqb _ _ (c .if3 .left)) at (c .before .first-blocked .ensures))
+unfolding stopAt
+returns-4 c = rw (ne-eqb _ _ (c .if3 .left)) at (walked (c .before))
 
 pub first-stop-spec : {M : Type 1} → statement M
 first-stop-spec =

@@ -1,25 +1,37 @@
 -- `sight::inner::sees_neighbour` decides by the closed form of one step.
 use Prim.Native.Nat.{_≤_}
-use mathlib.Core.Path.{_≡_, sym, ap, _∙_}
-use mathlib.Core.Bool.{not}
+use mathlib.Core.Path.{_≡_, sym}
 use native.Mathlib.Omega.{arith}
 use borrow.Author.Needs.{needs}
 use denote.Ref.{now}
 use Rattle.board.specs.Board.{Board, board}
 use Rattle.sight.specs.Leg.{far}
-use Rattle.sight.proofs.Steps.{level-step, upright-step, diagonal-step, neighbours-near, neighbours-differ}
+use Rattle.sight.proofs.Neighbours.{level-step, upright-step, diagonal-step, neighbours-near, neighbours-differ}
 use Rattle.sight.proofs.inner.sees_neighbour.Statement.{statement}
 use Rattle.sight.proofs.inner.sees_neighbour.Tie as tie
 
--- the board that the call is given
-abbrev asked : tie.Start → Board
-asked s = board (now (s .args .cells)) (s .args .width) (s .args .height)
+-- the call's start, where both lesser coordinates are known
+abbrev begun : tie.After-lesser2 → tie.Start
+begun c = c .before .before .before
 
-near : (s : tie.Start) → (far (s .args .ax) (s .args .bx) ≤ 1) × (far (s .args .ay) (s .args .by) ≤ 1)
-near s = neighbours-near (s .args .ax) (s .args .ay) (s .args .bx) (s .args .by) (s .pre .1 .1)
+abbrev asked : tie.After-lesser2 → Board
+asked c = let a = begun c .args in board (now (a .cells)) (a .width) (a .height)
 
-differ : (s : tie.Start) → s .args .ax ≡ s .args .bx → s .args .ay ≡ s .args .by → ⊥
-differ s = neighbours-differ (s .args .ax) (s .args .ay) (s .args .bx) (s .args .by) (s .pre .1 .1)
+-- what neighbours are known to be
+near : (c : tie.After-lesser2) → let a = begun c .args in (far (a .ax) (a .bx) ≤ 1) × (far (a .ay) (a .by) ≤ 1)
+near c = let a = begun c .args in neighbours-near (a .ax) (a .ay) (a .bx) (a .by) (begun c .pre .1 .1)
+
+differ : (c : tie.After-lesser2) → let a = begun c .args in a .ax ≡ a .bx → a .ay ≡ a .by → ⊥
+differ c = let a = begun c .args in neighbours-differ (a .ax) (a .ay) (a .bx) (a .by) (begun c .pre .1 .1)
+
+level-far : (c : tie.Then1) → let a = begun (c .before) .args in far (a .ax) (a .bx) ≡ 1
+level-far c =
+    let a = begun (c .before) .args in
+    let d : a .ax ≡ a .bx → ⊥ = λ e. differ (c .before) e (c .if1 .taken) in
+    omega (arith, near (c .before))
+
+upright-far : (c : tie.Else1) → let a = begun (c .before) .args in far (a .ay) (a .by) ≡ 1
+upright-far c = omega (arith, near (c .before), c .if1 .left)
 
 lesser-requires : tie.Need-lesser-requires
 lesser-requires c κs = search needs
@@ -27,27 +39,18 @@ lesser-requires c κs = search needs
 lesser-requires-2 : tie.Need-lesser-requires-2
 lesser-requires-2 c κs = search needs
 
-level-far : (c : tie.Then1) → let a = c .before .before .before .before .args in far (a .ax) (a .bx) ≡ 1
-level-far c =
-    let s = c .before .before .before .before in
-    let d : s .args .ax ≡ s .args .bx → ⊥ = λ e. differ s e (c .if1 .taken) in
-    omega (arith, near s)
-
 is-row-wall-requires : tie.Need-is-row-wall-requires
 is-row-wall-requires c κs =
-    let s = c .before .before .before .before in
-    (s .pre .0, (omega (arith, level-far c, c .before .before .lesser .ensures, s .pre .1 .0), s .pre .1 .0 .first .y-on))
+    let p = begun (c .before) .pre in
+    (p .0, (omega (arith, level-far c, c .before .before .lesser .ensures, p .1 .0), p .1 .0 .first .y-on))
 
 returns : tie.Need-returns
 returns c =
-    let k = c .before in
-    let s = k .before .before .before .before in
+    let l = c .before .before in
+    let s = begun l in
     let a = s .args in
-    ap not (c .is-row-wall .ensures)
-    ∙ rw (k .before .before .lesser .ensures) (sym (level-step (asked s) (a .ax) (a .ay) (a .bx) (a .by) (s .pre .1 .0) (k .if1 .taken) (level-far k)))
-
-upright-far : (c : tie.Else1) → let a = c .before .before .before .before .args in far (a .ay) (a .by) ≡ 1
-upright-far c = let s = c .before .before .before .before in omega (arith, near s, c .if1 .left)
+    rw (c .is-row-wall .ensures, l .before .lesser .ensures)
+    (sym (level-step (asked l) (a .ax) (a .ay) (a .bx) (a .by) (s .pre .1 .0) (c .before .if1 .taken) (level-far (c .before))))
 
 is-column-wall-requires : tie.Need-is-column-wall-requires
 is-column-wall-requires c κs = search needs
@@ -55,10 +58,11 @@ is-column-wall-requires c κs = search needs
 returns-2 : tie.Need-returns-2
 returns-2 c =
     let k = c .before .before in
-    let s = k .before .before .before .before in
+    let l = k .before in
+    let s = begun l in
     let a = s .args in
-    ap not (c .is-column-wall .ensures)
-    ∙ rw (k .before .lesser2 .ensures) (sym (upright-step (asked s) (a .ax) (a .ay) (a .bx) (a .by) (s .pre .1 .0) (c .before .if2 .taken) (upright-far k)))
+    rw (c .is-column-wall .ensures, l .lesser2 .ensures)
+    (sym (upright-step (asked l) (a .ax) (a .ay) (a .bx) (a .by) (s .pre .1 .0) (c .before .if2 .taken) (upright-far k)))
 
 is-cell-blocked-requires : tie.Need-is-cell-blocked-requires
 is-cell-blocked-requires c κs = search needs
@@ -66,11 +70,12 @@ is-cell-blocked-requires c κs = search needs
 returns-3 : tie.Need-returns-3
 returns-3 c =
     let k = c .before .before in
-    let s = k .before .before .before .before in
+    let l = k .before in
+    let s = begun l in
     let a = s .args in
-    let f : far (a .ax) (a .bx) ≡ 1 = omega (arith, near s, c .before .if2 .left) in
-    ap not (c .is-cell-blocked .ensures)
-    ∙ rw (k .before .before .lesser .ensures, k .before .lesser2 .ensures) (sym (diagonal-step (asked s) (a .ax) (a .ay) (a .bx) (a .by) (s .pre .1 .0) f (upright-far k)))
+    let f : far (a .ax) (a .bx) ≡ 1 = omega (arith, near l, c .before .if2 .left) in
+    rw (c .is-cell-blocked .ensures, l .before .lesser .ensures, l .lesser2 .ensures)
+    (sym (diagonal-step (asked l) (a .ax) (a .ay) (a .bx) (a .by) (s .pre .1 .0) f (upright-far k)))
 
 pub sees-neighbour-spec : {M : Type 1} → statement M
 sees-neighbour-spec =

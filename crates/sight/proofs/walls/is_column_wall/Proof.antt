@@ -1,6 +1,6 @@
 -- `sight::walls::is_column_wall` reads the two cells beside the edge.
 use borrow.Author.Needs.{needs}
-use Rattle.sight.proofs.Beside.{column-wall-read}
+use Rattle.sight.proofs.walls.Beside.{column-wall-read}
 use Rattle.sight.proofs.walls.is_column_wall.Statement.{statement}
 use Rattle.sight.proofs.walls.is_column_wall.Tie as tie
 

@@ -1,6 +1,6 @@
 -- `sight::walls::is_row_wall` reads the two cells beside the edge.
 use borrow.Author.Needs.{needs}
-use Rattle.sight.proofs.Beside.{row-wall-read}
+use Rattle.sight.proofs.walls.Beside.{row-wall-read}
 use Rattle.sight.proofs.walls.is_row_wall.Statement.{statement}
 use Rattle.sight.proofs.walls.is_row_wall.Tie as tie
 

@@ -1,0 +1,53 @@
+#!/bin/sh
+# larger.sh SIDE [NETS]: the rows of run.sh for boards of 127, 255 or 511 cells a side. The limits are changed in a copy of the
+# tree (target/larger-SIDE), the library is proved and built there, and the fast router is compiled with the same limit.
+# Of the crates only those below capi are copied: what states the limit itself, route and worked, stays out.
+set -eu
+here=$(cd "$(dirname "$0")" && pwd)
+root=$(cd "$here/.." && pwd)
+. "$here/needs.sh"
+needs "$CC" "gcc$cross"
+needs_counter
+command -v rt >/dev/null || { echo "larger.sh: rt is missing; it is in the Rattle kit" >&2; exit 2; }
+side=${1:-}
+case $side in
+    127) vertex=u16 bits=16 ;;
+    255 | 511) vertex=u32 bits=32 ;; # the number of vertices must fit too, and 256 * 256 has 17 bits
+    *) echo "larger.sh: the side is to be 127, 255 or 511" >&2; exit 2 ;;
+esac
+copy=$root/target/larger-$side
+mkdir -p "$copy/crates" "$copy/tests"
+
+# below CRATE: the crates that CRATE is built on, itself among them
+below() {
+    echo "$1"
+    for one in $(sed -n "s/^$1://p" "$root/crates.txt"); do
+        below "$one"
+    done
+}
+crates=$(below capi | sort -u)
+rm -rf "$copy/crates" "$copy/bench" "$copy/include"
+mkdir "$copy/crates"
+grep -E "^($(echo $crates | tr ' ' '|')):" "$root/crates.txt" > "$copy/crates.txt"
+for crate in $crates; do
+    cp -R "$root/crates/$crate" "$copy/crates"
+    rm -rf "$copy/crates/$crate/must-fail"
+done
+cp -R "$root/bench" "$root/include" "$copy"
+cp "$root/tests/boards.c" "$root/tests/boards.h" "$copy/tests"
+
+# changed FILE OLD NEW: one line of the copy, which must stand there just once
+changed() {
+    [ "$(grep -cxF "$2" "$copy/$1")" = 1 ] || { echo "larger.sh: $1 does not have the line '$2' just once" >&2; exit 2; }
+    awk -v old="$2" -v new="$3" '{ print $0 == old ? new : $0 }' "$copy/$1" > "$copy/changed"
+    mv "$copy/changed" "$copy/$1"
+}
+changed crates/board/src/lib.rt "pub const SIDE: usize = 63;" "pub const SIDE: usize = $side;"
+changed crates/board/src/lib.rt "pub type Vertex = u16;" "pub type Vertex = $vertex;"
+changed crates/board/specs/Limits.antt "largestSide = 63" "largestSide = $side"
+changed crates/board/specs/Limits.antt "vertexBits = 16" "vertexBits = $bits"
+changed include/wexxolin.h "typedef uint16_t wexxolin_vertex;" "typedef uint${bits}_t wexxolin_vertex;"
+
+cd "$copy"
+rt staticlib capi >&2
+OUT=$copy/target/outside SIDE=$side exec bench/run.sh "${2:-64}"

@@ -1,0 +1,48 @@
+-- What a board read and a net read hand back, refused or done, and what the lent slice holds. Assumes nothing.
+use Prim.Native.Nat.{ℕ, _*_, _≤_, _<_}
+use mathlib.Core.Path.{_≡_, refl, sym, ap, _∙_}
+use mathlib.Core.List.{List, _++_}
+use native.Mathlib.Omega.{arith}
+use lib.ListN.{length, drop}
+use borrow.Author.Tests.{eqb-false, lt-ltb, le-ltb, ne-eqb}
+use Rattle.board.specs.Handed.{Handed, answer, row}
+use Rattle.job.specs.declared.JobRefusal.{JobRefusal}
+use Rattle.job.specs.declared.BoardAnswer.the-variants.{Board, Refused, Short}
+use Rattle.job.specs.declared.NetAnswer.the-variants as net-read
+use Rattle.job.specs.Job.{width, height, nets, boardCells}
+use Rattle.job.specs.Refusals.{jobRows, refusalRow}
+use Rattle.job.specs.Answers.{Sides, noSides, handedBoard, boardRow, boardAfter, BoardRead, noNet, handedNet, netRow}
+use Rattle.job.specs.Inner.{Accepted}
+use Rattle.job.proofs.Refusing.{listed, not-own, refused-same}
+
+module _ (job before : List ℕ) where
+  -- a refusal leaves the slice as it is
+  kept : {h : Handed Sides} → h ≡ boardRow job (length before) → (h .number ≡ 0 → ⊥) → BoardRead job before h before
+  unfolding boardAfter
+  kept e n = record {
+    row-is = e;
+    after-is = rw (ne-eqb (boardRow job (length before) .number) 0 (λ z. n (ap (λ (x : Handed Sides). x .number) e ∙ z)));
+  }
+
+  pub board-refused : (why : JobRefusal) → jobRows job ≡ refusalRow why → BoardRead job before (handedBoard (Refused why)) before
+  unfolding boardRow
+  board-refused why e =
+      let k = listed why in
+      kept (refused-same noSides why _ _ e) (λ z. eqb-false (k .number) 0 (not-own k 0 refl) (rw (k .row-is) at z))
+
+  module _ (a : Accepted job) where
+    pub board-short : length before < width job * height job → BoardRead job before (handedBoard Short) before
+    unfolding boardRow
+    board-short l = kept (rw (a .passed, lt-ltb (length before) (width job * height job) l)) (λ z. omega arith)
+
+    pub board-done : width job * height job ≤ length before
+        → BoardRead job before (handedBoard (Board (width job) (height job) (nets job))) (boardCells job ++ drop (width job * height job) before)
+    unfolding boardRow boardAfter
+    board-done l =
+        let e : boardRow job (length before) ≡ handedBoard (Board (width job) (height job) (nets job)) =
+        rw (a .passed, le-ltb (length before) (width job * height job) l) in
+        record { row-is = sym e; after-is = rw e }
+
+pub net-refused : (job : List ℕ) (index : ℕ) (why : JobRefusal) → jobRows job ≡ refusalRow why → handedNet (net-read.Refused why) ≡ netRow job index
+unfolding netRow
+net-refused job index why e = refused-same noNet why _ _ e

@@ -1,0 +1,153 @@
+-- The cells of an accepted job: how many, what each is, and that painting gives them. Assumes nothing.
+use Prim.Native.Nat.{ℕ, zero, suc, _+_, _*_, _-_, _/_, _%_, _≤_, _<_}
+use mathlib.Core.Path.{_≡_, refl, sym, ap, _∙_}
+use mathlib.Core.Logic.{⊎-elim}
+use mathlib.Core.Bool.{true, false, _&&_, cond}
+use mathlib.Core.List.{List, [], _∷_, _++_}
+use native.Mathlib.Nat.{div-add-mod', mod-lt, le-div-iff-mul-le}
+use native.Mathlib.Omega.{arith}
+use lib.Dec.{leb, ltb}
+use lib.ListN.{length, getD, drop, length-append, length-drop, List·getD-append}
+use lib.Seq.{ext-getD, getD-drop, getD-append-add, getD-at}
+use borrow.Author.Tests.{lt-ltb, le-ltb, le-leb, ne-eqb}
+use Rattle.laws.proofs.Tests.{order, bool-cases, and-false}
+use Rattle.laws.proofs.Below.{some-none}
+use Rattle.board.specs.Limits.{largestSide}
+use Rattle.board.specs.Handed.{firstBad}
+use Rattle.board.proofs.Rows.{side-least, cells-few}
+use Rattle.records.specs.Records.{records}
+use Rattle.job.specs.declared.BoardAnswer.the-variants.{Board, Short}
+use Rattle.job.specs.declared.steps.Progress.{Progress}
+use Rattle.job.specs.Job.{isKeepout, width, height, left, top, right, bottom, covers, inKeepout, cellsUpTo, boardCells, nets}
+use Rattle.job.specs.Answers.{handedBoard, BoardRead}
+use Rattle.job.specs.Inner.{Accepted}
+use Rattle.job.specs.Steps.{progress}
+use Rattle.job.specs.Cells.{Filled, Painted}
+use Rattle.job.proofs.Accepted.{some-record, width-fits, height-fits, keepout-below}
+use Rattle.job.proofs.Reading.{board-short, board-done}
+
+-- ---- the list of cells
+
+module _ (job : List ℕ) where
+  abbrev cell : ℕ → ℕ
+  cell k = cond (inKeepout job (k % width job) (k / width job)) 1 0
+
+  pub cells-length : (n : ℕ) → length (cellsUpTo job n) ≡ n
+  unfolding cellsUpTo
+  cells-length zero = refl
+  cells-length (suc n) = length-append (cellsUpTo job n) (cell n ∷ []) ∙ omega (arith, cells-length n)
+
+  cells-at : (n k : ℕ) → k < n → getD (cellsUpTo job n) k 0 ≡ cell k
+  unfolding cellsUpTo
+  cells-at zero k l = absurd (omega arith)
+  cells-at (suc n) k l =
+      ⊎-elim
+      (λ (b : k < n). List·getD-append (cellsUpTo job n) (cell n ∷ []) 0 k (omega (arith, cells-length n)) ∙ cells-at n k b)
+      (λ (b : n ≤ k). let e : k ≡ n = omega arith in rw e (getD-at (cellsUpTo job n) (cell n) [] 0 n (cells-length n)))
+      (order k n)
+
+  cell-bit : (k : ℕ) → cell k ≤ 1
+  cell-bit k =
+      ⊎-elim
+      (λ (e : inKeepout job (k % width job) (k / width job) ≡ true). rw e (omega arith))
+      (λ (e : inKeepout job (k % width job) (k / width job) ≡ false). rw e (omega arith))
+      (bool-cases (inKeepout job (k % width job) (k / width job)))
+
+-- a list of bits has no bad byte
+all-bits : (l : List ℕ) → ((k : ℕ) → k < length l → getD l k 0 ≤ 1) → firstBad l ≡ length l
+unfolding firstBad
+all-bits [] f = refl
+all-bits (x ∷ xs) f =
+    rw (le-leb x 1 (f 0 (omega arith))) (ap suc (all-bits xs (λ (k : ℕ) (l : k < length xs). f (suc k) (omega arith))))
+
+pub cells-bits : (job : List ℕ) → firstBad (boardCells job) ≡ length (boardCells job)
+cells-bits job = all-bits (boardCells job) (λ (k : ℕ) (l : k < length (boardCells job)). rw (cells-at job (width job * height job) k (omega (arith, cells-length job (width job * height job)))) (cell-bit job k))
+
+-- ---- painting gives them
+
+module _ {job : List ℕ} (a : Accepted job) where
+  wide : 0 < width job
+  wide = side-least (width job) (width-fits a)
+
+  -- no keepout reaches below the board
+  kept-on : (x y : ℕ) → height job ≤ y → inKeepout job x y ≡ false
+  unfolding inKeepout
+  kept-on x y l = some-none (covers job x y) (records job) none
+    where
+      none : (i : ℕ) → i < records job → covers job x y i ≡ false
+      none i b =
+          ⊎-elim
+          (λ (e : isKeepout job i ≡ true).
+          let past = le-ltb y (bottom job i) (omega (arith, keepout-below a i b e .3)) in
+          rw e (and-false (leb (left job i) x && ltb x (right job i)) (and-false (leb (top job i) y) past)))
+          (λ (e : isKeepout job i ≡ false). rw e)
+          (bool-cases (isKeepout job i))
+
+  -- cells that are cleared and then painted are the job's, and what lies beyond stays
+  module _ {before mid after : List ℕ} (room : width job * height job ≤ length before) (f : Filled 0 (width job * height job) 0 before mid)
+      (p : Painted (width job) (inKeepout job) mid after) where
+    wanted : List ℕ
+    wanted = boardCells job ++ drop (width job * height job) before
+
+    painted : (k : ℕ) → getD after k 0 ≡ cond (inKeepout job (k % width job) (k / width job)) 1 (getD mid k 0)
+    painted k = rw (div-add-mod' k (width job)) at (p .cell (k % width job) (k / width job) (mod-lt k wide))
+
+    on : (k : ℕ) → k < width job * height job → getD after k 0 ≡ getD wanted k 0
+    unfolding wanted
+    on k l =
+        let free : getD mid k 0 ≡ 0 = f .entry k ∙ rw (le-leb 0 k (omega arith), lt-ltb k (width job * height job) l) in
+        painted k ∙ rw free
+        (sym (List·getD-append (boardCells job) (drop (width job * height job) before) 0 k (omega (arith, cells-length job (width job * height job)))
+        ∙ cells-at job (width job * height job) k l))
+
+    beyond : (k : ℕ) → width job * height job ≤ k → getD after k 0 ≡ getD wanted k 0
+    unfolding wanted
+    beyond k l =
+        let n : ℕ = width job * height job in
+        let none = kept-on (k % width job) (k / width job) (le-div-iff-mul-le wide .1 (omega arith)) in
+        let kept : getD mid k 0 ≡ getD before k 0 = f .entry k ∙ rw (and-false (leb 0 k) (le-ltb k n l)) in
+        let e : k ≡ length (boardCells job) + (k - n) = omega (arith, cells-length job n) in
+        let e′ : n + (k - n) ≡ k = omega arith in
+        painted k ∙ rw none
+        (kept ∙ sym (ap (λ (m : ℕ). getD (boardCells job ++ drop n before) m 0) e ∙ getD-append-add (boardCells job) (drop n before) (k - n) 0
+        ∙ getD-drop n before (k - n) 0 ∙ ap (λ (m : ℕ). getD before m 0) e′))
+
+    same-length : length after ≡ length wanted
+    unfolding wanted
+    same-length = simp (length-append, length-drop) (omega (arith, p .long, f .long, cells-length job (width job * height job)))
+
+    cells-drawn : after ≡ boardCells job ++ drop (width job * height job) before
+    unfolding wanted
+    cells-drawn =
+        ext-getD 0 after wanted same-length (λ (k : ℕ) (l : k < length after). ⊎-elim (on k) (beyond k) (order k (width job * height job)))
+
+-- ---- the board read, from what the whole job says
+
+module _ {job : List ℕ} (a : Accepted job) {p : Progress} (known : p ≡ progress job (records job)) where
+  whole-reads : (p .width ≡ width job) × (p .height ≡ height job) × (p .nets ≡ nets job)
+  unfolding progress
+  whole-reads =
+      let some = ne-eqb (records job) 0 (λ z. omega (arith, some-record a)) in
+      (rw (known, some), rw (known, some), rw known)
+
+  pub whole-width : p .width ≡ width job
+  whole-width = whole-reads .0
+
+  whole-height : p .height ≡ height job
+  whole-height = whole-reads .1
+
+  pub whole-few : p .width * p .height ≤ largestSide * largestSide
+  whole-few = rw (whole-width, whole-height) (cells-few (width job) (height job) (width-fits a) (height-fits a))
+
+  pub whole-room : (n : ℕ) → p .width * p .height ≤ n → p .width * height job ≤ n
+  whole-room n l = rw whole-height at l
+
+  pub whole-short : (before : List ℕ) → length before < p .width * p .height → BoardRead job before (handedBoard Short) before
+  whole-short before l = board-short job before a (rw (whole-width, whole-height) at l)
+
+  pub whole-done : {before mid after : List ℕ} → p .width * p .height ≤ length before → Filled 0 (p .width * p .height) 0 before mid
+      → Painted (p .width) (inKeepout job) mid after → BoardRead job before (handedBoard (Board (p .width) (p .height) (p .nets))) after
+  whole-done {before} l f q =
+      let room : width job * height job ≤ length before = rw (whole-width, whole-height) at l in
+      rw (cells-drawn a room (rw (whole-width, whole-height) at f) (rw whole-width at q), whole-width, whole-height, whole-reads .2)
+      (board-done job before a room)

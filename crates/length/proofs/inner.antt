@@ -1,0 +1,2 @@
+-- What the proof of `root` uses: the digits so far.
+mod Digits

@@ -1,0 +1,116 @@
+-- The contest of a board is fair; and the look through a group has the first open vertex so far. Assumes nothing.
+use mathlib.Core.Path.{_≡_, refl, sym, ap, _∙_}
+use mathlib.Core.Logic.{_≢_}
+use mathlib.Core.Bool.{Bool, true, false, cond}
+use mathlib.Core.List.{List}
+use Prim.Native.Nat.{ℕ, _+_, _*_, _^_, _≤_, _<_}
+use native.Mathlib.Omega.{arith}
+use lib.IntN.{natAbs}
+use borrow.Author.Tests.{eqb-true, eq-eqb, ne-eqb}
+use Rattle.board.specs.Limits.{largestSide, mostVertices}
+use Rattle.board.specs.Board.{numberOf, columnOf, rowOf}
+use Rattle.board.proofs.Numbers.{column-number, row-number, vertices-few, column-on, row-on}
+use Rattle.length.specs.Legs.{step}
+use Rattle.length.specs.Units.{units}
+use Rattle.length.proofs.Units.{units-fit}
+use Rattle.length.proofs.Legs.{step-size}
+use Rattle.reach.specs.Turns.{at}
+use Rattle.theta.specs.Order.{ranked, sooner}
+use Rattle.open.specs.Contest.{noKey, WellRanked, Leads, Between}
+use Rattle.open.specs.Tournament.{Shown}
+use Rattle.open.specs.Groups.{groupStart, groupEnd}
+use Rattle.open.specs.Marked.{seen, numbers, toGoal, boardContest, Sited, Small, Looked}
+use Rattle.open.proofs.Leading.{leads-part}
+use Rattle.open.proofs.Scanning.{scan-none, scan-closed, scan-open}
+use Rattle.open.proofs.Grouping.{leaf-strip, strip-leaf, strip-on}
+
+-- ---- the contest
+
+pub contest-shown : (width height gx gy : ℕ) (g m : List ℕ) → Shown (boardContest width height gx gy g m) (seen g)
+contest-shown width height gx gy g m = record { key = λ v k. refl; own = λ v l. refl }
+
+-- no leg is long
+pub units-small : (ax ay bx by : ℕ) → ax ≤ largestSide → ay ≤ largestSide → bx ≤ largestSide → by ≤ largestSide → units (step ax bx) (step ay by) < 2 ^ 62
+units-small ax ay bx by a b c d =
+    let p : natAbs (step ax bx) ≤ largestSide = omega (arith, step-size ax bx) in
+    let q : natAbs (step ay by) ≤ largestSide = omega (arith, step-size ay by) in
+    omega (arith, units-fit (natAbs (step ax bx)) (natAbs (step ay by)) p q)
+
+-- h by the vertex's place
+pub to-goal : (width gx gy x y : ℕ) → x ≤ width → toGoal width gx gy (numberOf width x y) ≡ units (step x gx) (step y gy)
+to-goal width gx gy x y l = rw (column-number width x y l, row-number width x y l) refl
+
+module _ {width height x y gx gy : ℕ} (D : Sited width height x y gx gy) where
+  goal-small : (v : ℕ) → v < (width + 1) * (height + 1) → toGoal width gx gy v < 2 ^ 62
+  goal-small v l =
+      units-small (columnOf width v) (rowOf width v) gx gy (omega (arith, column-on width v, D .narrow))
+      (omega (arith, row-on width height v l, D .low)) (omega (arith, D .goal-x, D .narrow)) (omega (arith, D .goal-y, D .low))
+
+  -- an open vertex's f is a key
+  pub contest-fair : {g m : List ℕ} → Small ((width + 1) * (height + 1)) g m → WellRanked (boardContest width height gx gy g m)
+  contest-fair {g} {m} S = record {
+    numbered = λ v. refl;
+    keyed = λ v l o. omega (arith, goal-small v l, S .small v l (eqb-true (at m v) 1 o));
+  }
+
+  -- there are few vertices, and each has its entry in g
+  pub vertices-most : (width + 1) * (height + 1) ≤ mostVertices
+  vertices-most = vertices-few width height (D .narrow) (D .low)
+
+  pub numbers-most : {g m : List ℕ} → Small ((width + 1) * (height + 1)) g m → (width + 1) * (height + 1) ≤ numbers g
+  numbers-most S = omega (arith, S .room-g, vertices-most)
+
+  -- the group is a strip of the board
+  pub group-filled : groupStart x < groupEnd width x
+  group-filled = omega (arith, D .column)
+
+  pub column-below : (c : ℕ) → c < groupEnd width x → (c ≤ width) × (y * (width + 1) + c < (width + 1) * (height + 1))
+  column-below c l = (omega arith, omega (arith, strip-on width height x y (D .column) (D .row)))
+
+-- ---- the look
+
+-- r leads the columns of the group up to c, with the key k
+pub record Looking (width height x y gx gy : ℕ) (g m : List ℕ) (c r k : ℕ) : Type 0 where
+  pub on : r < (width + 1) * (height + 1)
+  pub leads : Leads (boardContest width height gx gy g m) (Between (y * (width + 1) + groupStart x) (y * (width + 1) + c)) r k
+
+module _ {width height x y gx gy : ℕ} (D : Sited width height x y gx gy) {g m : List ℕ} (S : Small ((width + 1) * (height + 1)) g m) where
+  pub looking-start : Looking width height x y gx gy g m (groupStart x) (y * (width + 1) + groupStart x) noKey
+  looking-start = record {
+    on = column-below D (groupStart x) (group-filled D) .1;
+    leads = scan-none (boardContest width height gx gy g m) (y * (width + 1) + groupStart x) (y * (width + 1) + groupStart x);
+  }
+
+  module _ {c r k : ℕ} (L : Looking width height x y gx gy g m c r k) (past : groupStart x ≤ c) (inside : c < groupEnd width x) where
+    further : y * (width + 1) + (c + 1) ≡ y * (width + 1) + c + 1
+    further = omega arith
+
+    pub looking-closed : at m (y * (width + 1) + c) ≢ 1 → Looking width height x y gx gy g m (c + 1) r k
+    looking-closed d = record {
+      on = L .on;
+      leads = rw further (scan-closed (ne-eqb (at m (y * (width + 1) + c)) 1 d) (L .leads));
+    }
+
+    -- it is open, u is its leg to the goal, and b says whether it is ahead of the leader so far
+    pub looking-open : (u : ℕ) → at m (y * (width + 1) + c) ≡ 1 → u ≡ units (step c gx) (step y gy) → {answer : Bool}
+        → answer ≡ sooner (ranked (at g (y * (width + 1) + c) + u) (at g (y * (width + 1) + c)) (y * (width + 1) + c)) (seen g r k)
+        → (b : Bool) → answer ≡ b
+        → Looking width height x y gx gy g m (c + 1) (cond b (y * (width + 1) + c) r) (cond b (at g (y * (width + 1) + c) + u) k)
+    looking-open u o e s b t = record {
+      on = on b;
+      leads = rw further
+          (scan-open (contest-fair D S) (contest-shown width height gx gy g m) (omega arith) (column-below D c inside .1)
+          (eq-eqb (at m (y * (width + 1) + c)) 1 o) (at g (y * (width + 1) + c) + u)
+          (ap (λ (z : ℕ). at g (y * (width + 1) + c) + z) (e ∙ sym (to-goal width gx gy c y (column-below D c inside .0)))) (L .leads) b (sym s ∙ t));
+    }
+      where
+        on : (z : Bool) → cond z (y * (width + 1) + c) r < (width + 1) * (height + 1)
+        on true = column-below D c inside .1
+        on false = L .on
+
+  pub looked : {c r k : ℕ} → Looking width height x y gx gy g m c r k → c ≡ groupEnd width x → Looked width height x y gx gy g m r k
+  looked L e = record {
+    on = L .on;
+    leads = leads-part (λ v o t. strip-leaf width height x y (D .column) (D .row) v (rw e at t))
+        (λ v o t. rw e (leaf-strip width height x y (D .column) (D .row) v t)) (L .leads);
+  }

@@ -1,0 +1,157 @@
+-- `open::list::look` goes along the group with the first open vertex so far.
+use mathlib.Core.Bool.{true, false}
+use mathlib.Core.Logic.{⊎-elim}
+use Prim.Native.Nat.{_+_, _-_, _*_, _≤_, _<_}
+use native.Mathlib.Omega.{arith}
+use borrow.Author.Needs.{needs}
+use denote.Ref.{now}
+use lib.ListN.{length}
+use Rattle.board.specs.Limits.{mostVertices}
+use Rattle.table.proofs.Table.{known-leg}
+use Rattle.open.specs.Groups.{groupStart, groupEnd}
+use Rattle.open.proofs.Looking.{units-small, vertices-most, group-filled, column-below, Looking, looking-start, looking-closed, looking-open, looked}
+use Rattle.open.proofs.list.look.Statement.{statement}
+use Rattle.open.proofs.list.look.Tie as tie
+
+abbrev Inv-loop : tie.InvT-loop
+Inv-loop width height x y gx gy g marks table row end column₀ first₀ key₀ column first key = (groupStart x ≤ column) × (column ≤ groupEnd width x) × Looking width height x y gx gy g marks column first key
+
+abbrev μ-loop : tie.MeasureT-loop
+μ-loop width height x y gx gy g marks table row end column₀ first₀ key₀ column first key = groupEnd width x - column
+
+-- the places on the way: the loop, its test has passed, the start
+abbrev start : tie.At-loop Inv-loop μ-loop → tie.Start Inv-loop μ-loop
+start l = l .before .before .before .before .before
+
+-- the row begins on the board
+row-few : (s : tie.Start Inv-loop μ-loop) → s .args .y * (s .args .width + 1) + groupStart (s .args .x) < mostVertices
+row-few s = omega (arith, column-below (s .pre .0) (groupStart (s .args .x)) (group-filled (s .pre .0)) .1, vertices-most (s .pre .0))
+
+add-row : tie.Need-add-row Inv-loop μ-loop
+add-row c = let s = c .before .before .before in omega (arith, s .pre .0 .narrow)
+
+mul-row : tie.Need-mul-row Inv-loop μ-loop
+mul-row c = let s = c .before .before .before in omega (arith, row-few s)
+
+group-end-requires : tie.Need-group-end-requires Inv-loop μ-loop
+group-end-requires c κs = let s = c .before .before .before in (s .pre .0 .narrow, s .pre .0 .column)
+
+mul-column : tie.Need-mul-column Inv-loop μ-loop
+mul-column c = let s = c .before .before .before .before in omega (arith, s .pre .0 .narrow, s .pre .0 .column)
+
+add-first : tie.Need-add-first Inv-loop μ-loop
+add-first c = omega (arith, row-few (c .before .before .before .before))
+
+loop-holds : tie.Need-loop-holds Inv-loop μ-loop
+loop-holds c =
+    let s = c .before .before .before .before in
+    let filled = group-filled (s .pre .0) in
+    (omega arith, omega arith, looking-start (s .pre .0) (s .pre .1 .0))
+
+-- the column is one of the group's, and its vertex one of the board's
+record Here (k : tie.In-loop Inv-loop μ-loop) : Type 0 where
+  inside : k .before .loop .column < groupEnd (start (k .before) .args .width) (start (k .before) .args .x)
+  on : k .before .loop .column ≤ start (k .before) .args .width
+  below : let a = start (k .before) .args in a .y * (a .width + 1) + k .before .loop .column < (a .width + 1) * (a .height + 1)
+  few : let a = start (k .before) .args in a .y * (a .width + 1) + k .before .loop .column < mostVertices
+
+here : (k : tie.In-loop Inv-loop μ-loop) → Here k
+here k =
+    let s = start (k .before) in
+    let l : k .before .loop .column < groupEnd (s .args .width) (s .args .x) = omega (arith, k .loop-test .taken, k .before .before .group-end .ensures) in
+    let o = column-below (s .pre .0) (k .before .loop .column) l in
+    record { inside = l; on = o .0; below = o .1; few = omega (arith, o .1, vertices-most (s .pre .0)) }
+
+add-v : tie.Need-add-v Inv-loop μ-loop
+add-v c = omega (arith, here c .few)
+
+shared-slice-read-if1 : tie.Need-shared-slice-read-if1 Inv-loop μ-loop
+shared-slice-read-if1 c = let k = c .before in omega (arith, here k .below, start (k .before) .pre .1 .0 .room-m)
+
+mul-own : tie.Need-mul-own Inv-loop μ-loop
+mul-own c = omega (arith, here (c .before .before) .few)
+
+shared-slice-read-own : tie.Need-shared-slice-read-own Inv-loop μ-loop
+shared-slice-read-own c = let k = c .before .before .before in omega (arith, here k .below, start (k .before) .pre .1 .0 .room-g)
+
+units-between-requires : tie.Need-units-between-requires Inv-loop μ-loop
+units-between-requires c κs =
+    let k = c .before .before .before in
+    let s = start (k .before) in
+    let D = s .pre .0 in
+    let h = here k .on in (
+      (omega (arith, D .narrow), omega (arith, D .row, D .low), omega (arith, D .goal-x, D .narrow), omega (arith, D .goal-y, D .low)),
+      known-leg (s .pre .1 .1) h (D .row) (D .goal-x) (D .goal-y),
+    )
+
+add-f : tie.Need-add-f Inv-loop μ-loop
+add-f c =
+    let k = c .before .before .before .before in
+    let s = start (k .before) in
+    let a = s .args in
+    let D = s .pre .0 in
+    let h = here k in
+    let x = k .before .loop .column in
+    omega (
+      arith,
+      s .pre .1 .0 .small (a .y * (a .width + 1) + x) (h .below) (c .before .before .if1 .taken),
+      c .units-between .ensures,
+      units-small x (a .y) (a .gx) (a .gy) (omega (arith, h .on, D .narrow)) (omega (arith, D .row, D .low)) (omega (arith, D .goal-x, D .narrow)) (omega (arith, D .goal-y, D .low)),
+    )
+
+ahead-requires : tie.Need-ahead-requires Inv-loop μ-loop
+ahead-requires c κs =
+    let l = c .before .before .before .before .before in
+    omega (arith, l .loop .inv .2 .on, start l .pre .1 .0 .room-g)
+
+add-column : tie.Need-add-column Inv-loop μ-loop
+add-column c = omega (arith, here (c .before .before) .few)
+
+loop-less : tie.Need-loop-less Inv-loop μ-loop
+loop-less c = omega (arith, here (c .before .before) .inside)
+
+loop-again : tie.Need-loop-again Inv-loop μ-loop
+loop-again c =
+    let k = c .before .before in
+    let l = k .before .loop in
+    let s = start (k .before) in
+    let a = s .args in
+    let t = here k .inside in
+    let low = l .inv .0 in
+    let next : Looking (a .width) (a .height) (a .x) (a .y) (a .gx) (a .gy) (now (a .g)) (now (a .marks)) (l .column + 1) (c .if1 .first) (c .if1 .key) =
+    ⊎-elim
+    (λ w. rw (w .5, w .6) (looking-open (s .pre .0) (s .pre .1 .0) (l .inv .2) low t _ (w .0 .taken) (w .2 .ensures) (w .3 .ensures) true (w .4 .taken)))
+    (⊎-elim
+    (λ w. rw (w .5, w .6) (looking-open (s .pre .0) (s .pre .1 .0) (l .inv .2) low t _ (w .0 .taken) (w .2 .ensures) (w .3 .ensures) false (w .4 .left)))
+    (λ w. rw (w .1, w .2) (looking-closed (s .pre .0) (s .pre .1 .0) (l .inv .2) low t (w .0 .left))))
+    (c .if1 .came) in
+    (omega (arith, low), omega (arith, t), next)
+
+returns : tie.Need-returns Inv-loop μ-loop
+returns c =
+    let l = c .before in
+    looked (start l .pre .0) (start l .pre .1 .0) (l .loop .inv .2) (omega (arith, l .loop .inv .1, c .loop-test .left, l .before .group-end .ensures))
+
+pub look-spec : {M : Type 1} → statement M
+look-spec =
+    tie.close
+    (tie.spec
+    Inv-loop
+    μ-loop
+    add-row
+    mul-row
+    group-end-requires
+    mul-column
+    add-first
+    loop-holds
+    add-v
+    shared-slice-read-if1
+    mul-own
+    shared-slice-read-own
+    units-between-requires
+    add-f
+    ahead-requires
+    add-column
+    loop-less
+    loop-again
+    returns)

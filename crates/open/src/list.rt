@@ -1,0 +1,130 @@
+// The open list of a board. Each call has the list right before and after: every node's key is its leader's f as it is now.
+ghost use mathlib.Core.Path.{_≡_};
+ghost use Prim.Native.Nat.{_+_, _*_, _≤_, _<_};
+ghost use Rattle.board.specs.Limits.{largestSide};
+ghost use Rattle.board.specs.Board.{numberOf};
+ghost use Rattle.table.specs.Lengths.{Known};
+ghost use Rattle.open.specs.Groups.{leafAt, groupEnd};
+ghost use Rattle.open.specs.Marked.{Sited, Small, Listed, Lower, Looked, Opens, Closes};
+use crate::order::ahead;
+use crate::tree::Leader;
+use crate::tree::NO_KEY;
+use crate::tree::enter;
+use crate::tree::renew;
+use board::Vertex;
+use table::units_between;
+
+// The vertices of a group.
+pub const GROUP: usize = 8;
+
+// The leaf of the group of (x, y).
+fn leaf(width: usize, height: usize, x: usize, y: usize) -> usize
+    requires { ⌜ (width ≤ largestSide) × (height ≤ largestSide) × (x ≤ width) × (y ≤ height) ⌝ }
+    ensures { λ r. ⌜ r ≡ leafAt width height x y ⌝ }
+{
+    let per = width / GROUP + 1;
+    per * (height + 1) + per * y + x / GROUP
+}
+
+// The column just past the group of column x.
+fn group_end(width: usize, x: usize) -> usize
+    requires { ⌜ (width ≤ largestSide) × (x ≤ width) ⌝ }
+    ensures { λ r. ⌜ r ≡ groupEnd width x ⌝ }
+{
+    let end = x / GROUP * GROUP + GROUP;
+    if end <= width { end } else { width + 1 }
+}
+
+// Of the open vertices in the group of (x, y), the one that is taken first.
+fn look(
+    width: usize,
+    height: usize,
+    x: usize,
+    y: usize,
+    gx: usize,
+    gy: usize,
+    g: &[u64],
+    marks: &[u8],
+    table: &[u32],
+) -> Leader
+    requires { ⌜ Sited width height x y gx gy ⌝ }
+    requires { ⌜ Small ((width + 1) * (height + 1)) (now g) (now marks) ⌝ }
+    requires { ⌜ Known (width * width + height * height) (now table) ⌝ }
+    ensures { λ r. ⌜ Looked width height x y gx gy (now (g .entry)) (now (marks .entry)) (r .vertex) (r .f) ⌝ }
+{
+    let row = y * (width + 1);
+    let end = group_end(width, x);
+    let mut column = x / GROUP * GROUP;
+    let mut first = row + column;
+    let mut key = NO_KEY;
+    while column < end {
+        let v = row + column;
+        if marks[v] == 1 {
+            let own = g[v];
+            let f = own + units_between(column, y, gx, gy, table);
+            if ahead(f, own, v, key, first, g) {
+                first = v;
+                key = f;
+            }
+        }
+        column += 1;
+    }
+    Leader {
+        vertex: first,
+        f: key,
+    }
+}
+
+// The vertex v at (x, y) opens with the g `own`, or is open and its g falls to that.
+pub fn open_vertex(
+    width: usize,
+    height: usize,
+    x: usize,
+    y: usize,
+    gx: usize,
+    gy: usize,
+    v: usize,
+    own: u64,
+    g: &mut [u64],
+    marks: &mut [u8],
+    leads: &mut [Vertex],
+    keys: &mut [u64],
+    table: &[u32],
+)
+    requires { ⌜ Sited width height x y gx gy ⌝ }
+    requires { ⌜ Lower width x y v own (now g) (now marks) ⌝ }
+    requires { ⌜ Listed width height gx gy (now g) (now marks) (now leads) (now keys) ⌝ }
+    requires { ⌜ Known (width * width + height * height) (now table) ⌝ }
+    ensures { λ r. ⌜ Opens width height gx gy v own (now (g .entry)) (now (marks .entry)) (now (g .exit)) (now (marks .exit)) (now (leads .exit)) (now (keys .exit)) ⌝ }
+{
+    let f = own + units_between(x, y, gx, gy, table);
+    enter(leaf(width, height, x, y), v, own, f, g, leads, keys);
+    g[v] = own;
+    marks[v] = 1;
+}
+
+// The vertex v at (x, y) is expanded: its group is looked through, and the nodes above are made anew.
+pub fn close_vertex(
+    width: usize,
+    height: usize,
+    x: usize,
+    y: usize,
+    gx: usize,
+    gy: usize,
+    v: usize,
+    g: &[u64],
+    marks: &mut [u8],
+    leads: &mut [Vertex],
+    keys: &mut [u64],
+    table: &[u32],
+)
+    requires { ⌜ Sited width height x y gx gy ⌝ }
+    requires { ⌜ v ≡ numberOf width x y ⌝ }
+    requires { ⌜ Listed width height gx gy (now g) (now marks) (now leads) (now keys) ⌝ }
+    requires { ⌜ Known (width * width + height * height) (now table) ⌝ }
+    ensures { λ r. ⌜ Closes width height gx gy v (now (g .entry)) (now (marks .entry)) (now (marks .exit)) (now (leads .exit)) (now (keys .exit)) ⌝ }
+{
+    marks[v] = 2;
+    let leader = look(width, height, x, y, gx, gy, g, marks, table);
+    renew(leaf(width, height, x, y), leader, g, leads, keys);
+}

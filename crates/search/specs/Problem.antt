@@ -1,0 +1,52 @@
+-- Document 01's board as a problem for the search, its vertices by their numbers; and a path's units against its true length.
+use mathlib.Core.Path.{_≡_}
+use mathlib.Core.Bool.{Bool}
+use mathlib.Core.List.{List, [], _∷_}
+use Prim.Native.Nat.{ℕ, _+_, _-_, _*_, _^_, _≤_, _<_}
+use lib.ListN.{length}
+use Rattle.board.specs.Board.{Board, vertices, number, column, row}
+use Rattle.length.specs.Legs.{step}
+use Rattle.length.specs.Root.{root, Bounds}
+use Rattle.length.specs.Units.{square, units}
+use Rattle.reach.specs.Turns.{at}
+use Rattle.sight.specs.Sight.{sees}
+use Rattle.sight.specs.Neighbours.{visible}
+use Rattle.theta.specs.Search.{Problem}
+
+-- sight, and a leg's length, between the vertices numbered u and v
+abbrev pub seesFrom : Board → (u v : ℕ) → Bool
+seesFrom b u v = sees b (column b u) (row b u) (column b v) (row b v)
+
+abbrev pub unitsFrom : Board → (u v : ℕ) → ℕ
+unitsFrom b u v = units (step (column b u) (column b v)) (step (row b u) (row b v))
+
+-- a route is asked for from (sx, sy) to (gx, gy)
+unfoldable pub problem : Board → (sx sy gx gy : ℕ) → Problem
+problem b sx sy gx gy = record {
+  size = vertices b;
+  near = visible b (number b sx sy) (number b gx gy);
+  sees = seesFrom b;
+  len = unitsFrom b;
+  start = number b sx sy;
+  goal = number b gx gy;
+}
+
+-- ---- a path's units against its true length, in whole numbers
+
+-- dx² + dy² of the leg between the vertices numbered u and v
+abbrev pub squareFrom : Board → (u v : ℕ) → ℕ
+squareFrom b u v = square (step (column b u) (column b v)) (step (row b u) (row b v))
+
+-- the legs of a path in a finer measure, with m parts to a unit, each rounded down
+abbrev pub finerAlong : (m : ℕ) → Board → List ℕ → ℕ
+finerAlong m b [] = 0
+finerAlong m b (v ∷ []) = 0
+finerAlong m b (v ∷ (w ∷ l)) = root (m * m * (squareFrom b v w * 2 ^ 40)) + finerAlong m b (w ∷ l)
+
+-- leg by leg, u² is at most (dx² + dy²) × 2^40, and (u + 1)² is above it; and for the whole path, however fine the measure, the
+-- units are at most the length and less than one unit per leg below it; with no leg both are 0
+pub record RoundedDown (b : Board) (path : List ℕ) (units : ℕ) : Type 0 where
+  pub each : (i : ℕ) → i + 1 < length path → Bounds (squareFrom b (at path i) (at path (i + 1)) * 2 ^ 40) (unitsFrom b (at path i) (at path (i + 1)))
+  pub at-most : (m : ℕ) → m * units ≤ finerAlong m b path
+  pub above : (m : ℕ) → 0 < m → 1 < length path → finerAlong m b path < m * (units + (length path - 1))
+  pub none : (m : ℕ) → length path ≤ 1 → (units ≡ 0) × (finerAlong m b path ≡ 0)

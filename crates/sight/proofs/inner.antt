@@ -1,0 +1,2 @@
+-- What the proofs of `first_stop` and `sees` use.
+mod Walked

@@ -1,0 +1,17 @@
+pub mod Order
+pub mod Least
+pub mod Choosing
+pub mod Wins
+pub mod Taking
+pub mod Begins
+pub mod Completeness
+pub mod Tidy
+pub mod Entries
+pub mod Links
+pub mod Held
+pub mod Trails
+pub mod Routes
+pub mod Beyond
+pub mod Found
+pub mod Rounds
+pub mod Reading

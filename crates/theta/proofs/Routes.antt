@@ -1,0 +1,100 @@
+-- The path that the parents give is a route: from the start to the goal, each leg with sight and two ends, as long as the goal's g.
+-- Assumes nothing.
+use mathlib.Core.Path.{_≡_, refl, sym, ap, _∙_}
+use mathlib.Core.Logic.{_≢_}
+use mathlib.Core.Bool.{true}
+use mathlib.Core.List.{List, [], _∷_, _++_}
+use Prim.Native.Nat.{ℕ, zero, suc, _+_, _-_, _≤_, _<_}
+use native.Mathlib.Omega.{arith}
+use native.Mathlib.Numerals.{add-one}
+use lib.ListN.{length}
+use Rattle.reach.specs.Turns.{at, seenIn}
+use Rattle.reach.proofs.Taken.{open-room}
+use Rattle.theta.specs.Search.{Problem, State, search, trail, path}
+use Rattle.theta.specs.Demands.{unitsAlong, IsRoute}
+use Rattle.theta.specs.Fair.{Fair, FairLegs}
+use Rattle.theta.specs.Back.{Back, root, leg, Traced}
+use Rattle.theta.proofs.Completeness.{Good, search-stopped}
+use Rattle.theta.proofs.Links.{Link, Linked}
+use Rattle.theta.proofs.Held.{search-held}
+use Rattle.theta.proofs.Trails.{
+  trail-start,
+  trail-back,
+  trail-length,
+  trail-last,
+  trail-first,
+  trail-prev,
+  trail-all,
+  trail-on,
+  trail-leaves,
+}
+
+-- one leg more
+units-more : (p : Problem) (l : List ℕ) (k v : ℕ) → length l ≡ suc k → unitsAlong p (l ++ (v ∷ [])) ≡ unitsAlong p l + p .len (at l k) v
+units-more p [] k v e = absurd (omega arith)
+units-more p (a ∷ []) zero v e = omega arith
+units-more p (a ∷ []) (suc k) v e = absurd (omega arith)
+units-more p (a ∷ (b ∷ l)) zero v e = absurd (omega arith)
+units-more p (a ∷ (b ∷ l)) (suc k) v e = omega (arith, units-more p (b ∷ l) k v (omega arith))
+
+module _ {p : Problem} (F : Fair p) {longest : ℕ} {s : State} (G : Good p s) (K : Linked p longest s) where
+  -- the parent of a seen vertex is seen
+  seen-parent : (v : ℕ) → v < p .size → v ≢ p .start → seenIn (s .mark) v ≡ true → seenIn (s .mark) (at (s .parent) v) ≡ true
+  seen-parent v l d h =
+      let a = K .links v l h d in
+      G .inv .within (at (s .parent) v) (a .below) (a .behind)
+
+  trail-units : {v k : ℕ} → Back (p .size) (p .start) (s .parent) v k → (f : ℕ) → k ≤ f → seenIn (s .mark) v ≡ true
+      → unitsAlong p (trail (p .start) (s .parent) f v) ≡ at (s .g) v
+  trail-units root f l h = rw (trail-start (p .start) (s .parent) f) (sym (K .root-g))
+  trail-units (leg {v} {k} m d r) zero l h = absurd (omega arith)
+  trail-units (leg {v} {k} m d r) (suc f) l h =
+      let T = trail (p .start) (s .parent) f (at (s .parent) v) in
+      rw (trail-back (p .start) (s .parent) f v d, units-more p T k v (trail-length r f (omega arith)), trail-last r f (omega arith))
+      (omega (arith, trail-units r f (omega arith) (seen-parent v m d h), K .links v m h d .adds))
+
+  -- the chain of an open vertex has fewer legs than there are vertices
+  open-traced : (v : ℕ) → v < p .size → at (s .mark) v ≡ 1 → Traced (p .size) (p .start) (s .parent) v
+  open-traced v l o =
+      let q = K .depth v l (rw o refl) in
+      record { legs = q .0; back = q .1; few = omega (arith, q .2, open-room (F .ground) (G .inv) v l (rw o refl)) }
+
+  goal-route : p .goal < p .size → at (s .mark) (p .goal) ≡ 1 → IsRoute p (path p s) (at (s .g) (p .goal))
+  goal-route on o =
+      let R = open-traced (p .goal) on o in
+      let b = R .back in
+      let fits : R .legs ≤ p .size = omega (arith, R .few) in
+      let size = trail-length b (p .size) fits in
+      let h : seenIn (s .mark) (p .goal) ≡ true = rw o refl in
+      let links : (i : ℕ) → suc i ≤ R .legs → Link p s (at (path p s) (suc i)) =
+      (λ i j. K .links (at (path p s) (suc i)) (trail-on b (p .size) fits (F .ground .start-on) (suc i) j)
+      (trail-all (λ x. seenIn (s .mark) x ≡ true) (G .inv .first) b (λ x m d q. seen-parent x m d q) h (p .size) fits (suc i) j)
+      (trail-leaves b (p .size) fits i j)) in
+      record {
+        some = omega (arith, size);
+        first = trail-first b (p .size) fits;
+        last = let z : length (path p s) - 1 ≡ R .legs = omega (arith, size) in rw z (trail-last b (p .size) fits);
+        on = λ i j. trail-on b (p .size) fits (F .ground .start-on) i (omega (arith, size));
+        differ = λ i j e.
+            let m : suc i ≤ R .legs = omega (arith, size) in
+            links i m .apart (trail-prev b (p .size) fits i m ∙ e ∙ ap (at (path p s)) (add-one i));
+        sight = λ i j.
+            let m : suc i ≤ R .legs = omega (arith, size) in
+            rw (add-one i) (rw (trail-prev b (p .size) fits i m) at (links i m .sight));
+        total = sym (trail-units b (p .size) fits h);
+      }
+
+-- ---- the search
+
+module _ {p : Problem} (F : Fair p) where
+  -- the goal is not expanded and stays marked open
+  pub goal-open : (search p) .found ≡ true → (p .goal < p .size) × (at ((search p) .state .mark) (p .goal) ≡ 1)
+  goal-open = search-stopped F .at-goal
+
+  module _ {longest : ℕ} (W : FairLegs p longest) (f : (search p) .found ≡ true) where
+    pub search-traced : Traced (p .size) (p .start) ((search p) .state .parent) (p .goal)
+    search-traced = open-traced F (search-stopped F .sane) (search-held F W .linked) (p .goal) (goal-open f .0) (goal-open f .1)
+
+    -- a path that is found is a route, as long as the goal's g
+    pub search-route : IsRoute p (path p ((search p) .state)) (at ((search p) .state .g) (p .goal))
+    search-route = goal-route F (search-stopped F .sane) (search-held F W .linked) (goal-open f .0) (goal-open f .1)
