@@ -14,8 +14,8 @@ use Rattle.theta.specs.Search.{initial, choose, wins, around, close, expand, se
 use Rattle.search.specs.Problem.{problem}
 use Rattle.router.specs.Answers.{workRow, searchRow, routeRow, found}
 use Rattle.records.specs.Records.{byte, inOrder}
-use Rattle.job.specs.Job.{usedBy, coordinate}
-use Rattle.job.specs.Refusals.{isUntidy, netBefore, recordRows, jobRows}
+use Rattle.faults.specs.Job.{usedBy, coordinate}
+use Rattle.faults.specs.Refusals.{isUntidy, netBefore, recordRows, jobRows}
 use Rattle.job.specs.Answers.{noSides, boardRow}
 use Rattle.worked.specs.Table.{AllHold, table, corner, enough}
 
