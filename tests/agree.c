@@ -21,9 +21,7 @@ enum {
     MOST_CELLS = 63 * 63,
     MOST_VERTICES = 64 * 64,
     SPARE = 64,          /* how much longer than needed a lent slice may be */
-    ROOM = PAD + MOST_VERTICES + SPARE + PAD,
-    LONGEST_JOB = 8192,
-    JOB_ROOM = 70000
+    ROOM = PAD + MOST_VERTICES + SPARE + PAD
 };
 
 static struct dice dice;
@@ -628,28 +626,6 @@ static void check_promises_of_route(const struct route_case *c, struct wexxolin_
 
 /* ---------- jobs ---------- */
 
-struct job {
-    uint8_t bytes[JOB_ROOM];
-    size_t length;
-};
-
-static void add_record(struct job *job, unsigned a, unsigned b, unsigned c, unsigned d, unsigned e, unsigned f)
-{
-    uint8_t record[8] = {(uint8_t)a, (uint8_t)b, (uint8_t)c, (uint8_t)d, (uint8_t)e, (uint8_t)f, 0, 0};
-    memcpy(job->bytes + job->length, record, 8);
-    job->length += 8;
-}
-
-static void add_hex(struct job *job, const char *hex)
-{
-    unsigned byte;
-    for (; *hex; hex++)
-        if (*hex != ' ' && sscanf(hex, "%2x", &byte) == 1) {
-            job->bytes[job->length++] = (uint8_t)byte;
-            hex++;
-        }
-}
-
 struct job_case {
     const struct job *job;
     size_t board_len, index;
@@ -886,14 +862,14 @@ static void document_jobs(void)
     static struct job job;
     job.length = 0;
     compare_lines(&job, "refused 12 at 0\n");
-    add_hex(&job, "0100020200000000");
+    job_hex(&job, "0100020200000000");
     compare_job(&job);
     compare_lines(&job, "");
-    add_hex(&job, "0200010002010000 0301000002010000 0302000000000000");
+    job_hex(&job, "0200010002010000 0301000002010000 0302000000000000");
     compare_job(&job);
     compare_lines(&job, "net 1 path 2531486 expanded 3 tests 10 at 0,0 1,1 2,1\nnet 2 path 0 expanded 0 tests 0 at 0,0\n");
     job.length = 0;
-    add_hex(&job, "0100030100000000 0200010002010000 0307000003000000");
+    job_hex(&job, "0100030100000000 0200010002010000 0307000003000000");
     compare_lines(&job, "net 7 none expanded 4 tests 6\n");
 }
 
@@ -1504,35 +1480,16 @@ static void expect_job(const struct job *job, uint64_t number, uint64_t place)
     end_of_telling();
 }
 
-static void add_random_net(struct job *job, unsigned net, size_t width, size_t height)
-{
-    unsigned sx = (unsigned)below(width + 1), sy = (unsigned)below(height + 1);
-    unsigned gx = (unsigned)below(width + 1), gy = (unsigned)below(height + 1);
-    add_record(job, 3, net, sx, sy, gx, gy);
-}
-
-static void full_job(struct job *job, size_t width, size_t height)
-{
-    job->length = 0;
-    add_record(job, 1, 0, (unsigned)width, (unsigned)height, 0, 0);
-    for (unsigned i = 0; i < 768; i++) {
-        unsigned x = i % (unsigned)width, y = i / (unsigned)width * 2 % (unsigned)height;
-        add_record(job, 2, 0, x, y, x + 1, y + 1);
-    }
-    for (unsigned i = 1; i <= 255; i++)
-        add_random_net(job, i, width, height);
-}
-
 static void group_job_table(void)
 {
     static struct job job;
     begin_group("job reader, table by hand");
     for (size_t i = 0; i < sizeof job_rows / sizeof *job_rows; i++) {
         job.length = 0;
-        add_hex(&job, job_rows[i].hex);
+        job_hex(&job, job_rows[i].hex);
         expect_job(&job, job_rows[i].number, job_rows[i].place);
     }
-    full_job(&job, 63, 63);
+    job_full(&dice, &job, 63, 63);
     expect_job(&job, 0, 0);
     static const size_t lengths[] = {8193, 8195, 8199, 8200, 8208, 16384, 65536, 65544, 69999};
     for (size_t i = 0; i < sizeof lengths / sizeof *lengths; i++) {
@@ -1556,51 +1513,6 @@ static void group_job_table(void)
     end_group();
 }
 
-static void random_job(struct job *job, size_t most_keepouts, size_t most_nets, size_t largest)
-{
-    unsigned width = 1 + (unsigned)below(largest), height = 1 + (unsigned)below(largest), net = 0;
-    job->length = 0;
-    add_record(job, 1, 0, width, height, 0, 0);
-    for (size_t k = below(most_keepouts + 1); k > 0; k--) {
-        unsigned x = (unsigned)below(width), y = (unsigned)below(height);
-        unsigned across = chance(60) ? 1 : 1 + (unsigned)below(width - x), down = chance(60) ? 1 : 1 + (unsigned)below(height - y);
-        add_record(job, 2, 0, x, y, x + across, y + down);
-    }
-    for (size_t k = below(most_nets + 1); k > 0; k--) {
-        net += 1 + (unsigned)below(most_nets > 40 ? 2 : 6);
-        if (net > 255)
-            break;
-        add_random_net(job, net, width, height);
-    }
-}
-
-/* Changes a few bytes, or the length, or the order of two records. */
-static void damage(struct job *job)
-{
-    static const uint8_t bytes[] = {0, 1, 2, 3, 4, 5, 62, 63, 64, 65, 127, 128, 255};
-    size_t records = job->length / 8;
-    for (size_t k = 1 + below(3); k > 0 && job->length > 0; k--) {
-        size_t at = below(job->length), a = 8 * below(records), b = 8 * below(records);
-        uint8_t swap[8];
-        switch (below(8)) {
-        case 0: job->bytes[at] ^= (uint8_t)(1 << below(8)); break;
-        case 1: job->bytes[at] = any_byte(); break;
-        case 2: job->bytes[at]++; break;
-        case 3: job->bytes[at]--; break;
-        case 4:
-            memcpy(swap, job->bytes + a, 8);
-            memcpy(job->bytes + a, job->bytes + b, 8);
-            memcpy(job->bytes + b, swap, 8);
-            break;
-        case 5:
-            if (chance(30))
-                job->length = at, records = at / 8;
-            break;
-        default: job->bytes[at] = bytes[below(sizeof bytes)]; break;
-        }
-    }
-}
-
 static void group_random_jobs(void)
 {
     static struct job job, damaged;
@@ -1608,30 +1520,30 @@ static void group_random_jobs(void)
     for (size_t k = 0; k < 1500 * scale; k++) {
         size_t width = 1 + below(63), height = 1 + below(63);
         if (k % 100 == 7)
-            full_job(&job, width, height);
+            job_full(&dice, &job, width, height);
         else if (k % 20 == 3)
-            random_job(&job, 300, 255, 63);
+            job_random(&dice, &job, 300, 255, 63);
         else
-            random_job(&job, 8, 6, k % 3 ? 8 : 63);
+            job_random(&dice, &job, 8, 6, k % 3 ? 8 : 63);
         compare_job(&job);
     }
     end_group();
     begin_group("job reader, damaged jobs");
     for (size_t k = 0; k < 12000 * scale; k++) {
         if (k % 40 == 3)
-            random_job(&job, 200, 255, 63);
+            job_random(&dice, &job, 200, 255, 63);
         else
-            random_job(&job, 4, 4, 8);
+            job_random(&dice, &job, 4, 4, 8);
         damaged = job;
-        damage(&damaged);
+        job_damage(&dice, &damaged);
         compare_job(&damaged);
     }
     end_group();
     begin_group("lines of random and damaged jobs");
     for (size_t k = 0; k < 400 * scale; k++) {
-        random_job(&job, 12, 8, k % 20 == 0 ? 30 : 10);
+        job_random(&dice, &job, 12, 8, k % 20 == 0 ? 30 : 10);
         if (k % 3 == 0)
-            damage(&job);
+            job_damage(&dice, &job);
         compare_lines(&job, NULL);
     }
     end_group();
