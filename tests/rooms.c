@@ -89,11 +89,14 @@ static void on_fault(int signal, siginfo_t *info, void *context)
 
 void rooms_watch(void (*tell)(const char *where))
 {
+    static uint8_t memory[PAGE];
+    stack_t own = {.ss_sp = memory, .ss_size = sizeof memory}; /* the fault may be that there is no stack left */
     struct sigaction action;
     memset(&action, 0, sizeof action);
     action.sa_sigaction = on_fault;
-    action.sa_flags = SA_SIGINFO | (int)SA_RESETHAND;
+    action.sa_flags = SA_SIGINFO | SA_ONSTACK | (int)SA_RESETHAND;
     tell_fault = tell;
+    sigaltstack(&own, NULL);
     sigaction(SIGSEGV, &action, NULL);
     sigaction(SIGBUS, &action, NULL);
 }
