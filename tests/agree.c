@@ -580,33 +580,36 @@ static uint64_t pairs_with_expanded(const struct route_case *c, const uint8_t *m
     return pairs;
 }
 
-/* A path exists exactly if the goal is reached over visible neighbours; it starts and ends where asked, every leg has sight,
-   the lengths of the legs add up; every expanded vertex is within reach; with no path, all within reach are expanded. */
-static void check_promises_of_route(const struct route_case *c, struct wexxolin_route r)
+/* Every seen vertex is within reach; with no path, all within reach are expanded; both counts are those of the marks.
+   Returns what is wrong, or NULL. */
+static const char *wrong_marks(const struct route_case *c, struct wexxolin_route r, const uint8_t *reached)
 {
-    static uint8_t reached[MOST_VERTICES];
-    size_t stride = c->width + 1, vertices = stride * (c->height + 1), goal = c->gy * stride + c->gx;
-    const wexxolin_vertex *path = theirs.path + PAD;
+    const uint8_t *marks = theirs.marks + PAD;
     const char *wrong = NULL;
-    uint64_t units = 0, expanded = 0;
-    flood(c, reached);
-    if (r.number != 0 && r.number != 8)
-        return;
-    if ((r.number == 0) != (reached[goal] == 1))
-        wrong = "a path exists exactly if the goal is within reach";
-    for (size_t v = 0; v < vertices; v++) {
-        expanded += theirs.marks[PAD + v] == 2;
-        if (theirs.marks[PAD + v] > 2 || (theirs.marks[PAD + v] && !reached[v]))
+    uint64_t expanded = 0;
+    for (size_t v = 0; v < (c->width + 1) * (c->height + 1); v++) {
+        expanded += marks[v] == 2;
+        if (marks[v] > 2 || (marks[v] && !reached[v]))
             wrong = "a mark above 2, or a vertex out of reach seen";
-        if (r.number == 8 && reached[v] && theirs.marks[PAD + v] != 2)
+        if (r.number == 8 && reached[v] && marks[v] != 2)
             wrong = "no path, and a vertex within reach not expanded";
-        if (theirs.marks[PAD + v] == 0 && (theirs.g[PAD + v] || theirs.parents[PAD + v]))
+        if (marks[v] == 0 && (theirs.g[PAD + v] || theirs.parents[PAD + v]))
             wrong = "an unseen vertex with a g or parent";
     }
     if (expanded != r.expansions)
         wrong = "expansions are not the expanded marks";
-    if (pairs_with_expanded(c, theirs.marks + PAD) != r.tests)
+    if (pairs_with_expanded(c, marks) != r.tests)
         wrong = "tests are not the pairs of visible neighbours with an expanded one";
+    return wrong;
+}
+
+/* A path starts and ends where asked, every leg has sight, the lengths of the legs add up. Returns what is wrong, or NULL. */
+static const char *wrong_path(const struct route_case *c, struct wexxolin_route r)
+{
+    size_t stride = c->width + 1, goal = c->gy * stride + c->gx;
+    const wexxolin_vertex *path = theirs.path + PAD;
+    const char *wrong = NULL;
+    uint64_t units = 0;
     if (r.number == 0 && (path[0] != c->sy * stride + c->sx || path[r.vertices - 1] != goal || theirs.marks[PAD + goal] != 1))
         wrong = "the path's ends, or the goal's mark";
     for (size_t i = 1; i < r.vertices; i++) {
@@ -617,7 +620,22 @@ static void check_promises_of_route(const struct route_case *c, struct wexxolin_
     }
     if (units != r.units || r.cells != (double)units / 1048576.0)
         wrong = "the legs' lengths do not add up";
-    group_entries += vertices;
+    return wrong;
+}
+
+/* A path exists exactly if the goal is reached over visible neighbours; and what the two above say. */
+static void check_promises_of_route(const struct route_case *c, struct wexxolin_route r)
+{
+    static uint8_t reached[MOST_VERTICES];
+    if (r.number != 0 && r.number != 8)
+        return;
+    flood(c, reached);
+    const char *marks = wrong_marks(c, r, reached), *wrong = wrong_path(c, r);
+    if (marks)
+        wrong = marks;
+    if ((r.number == 0) != (reached[c->gy * (c->width + 1) + c->gx] == 1))
+        wrong = "a path exists exactly if the goal is within reach";
+    group_entries += (c->width + 1) * (c->height + 1);
     if (wrong) {
         tell_route(r, r, wrong);
         end_of_route(c);

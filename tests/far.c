@@ -17,7 +17,8 @@ enum { FIRST = 65536, MOST_CELLS = 63 * 63 };
 
 /* What is added to a length or a number. */
 static const size_t far_lengths[] = {0, 0, 256, 65536, (size_t)1 << 32, (size_t)3 << 31, (size_t)1 << 33};
-static const size_t far_numbers[] = {0, 0, 64, 256, 65536, (size_t)1 << 31, (size_t)1 << 32, (size_t)1 << 61, (size_t)1 << 63, SIZE_MAX};
+static const size_t far_numbers[] = {
+    0, 0, 64, 256, 65536, (size_t)1 << 31, (size_t)1 << 32, (size_t)1 << 61, (size_t)1 << 63, SIZE_MAX - 63, SIZE_MAX};
 enum { LENGTHS = sizeof far_lengths / sizeof *far_lengths, NUMBERS = sizeof far_numbers / sizeof *far_numbers };
 
 static struct dice dice;

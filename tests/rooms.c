@@ -73,8 +73,15 @@ void *room_lend(struct room *room, size_t length, enum flush flush)
     return room->lent + room->at;
 }
 
+/* An emulator may start a signal's function on a stack that is not aligned as x86-64 has it. */
+#ifdef __x86_64__
+#define ALIGNED __attribute__((force_align_arg_pointer))
+#else
+#define ALIGNED
+#endif
+
 /* The place by the slice that was lent last from its room; a negative byte lies before it. */
-static void on_fault(int signal, siginfo_t *info, void *context)
+ALIGNED static void on_fault(int signal, siginfo_t *info, void *context)
 {
     char where[160] = "an address in no slice that was lent";
     (void)signal, (void)context;
