@@ -1584,7 +1584,7 @@ static void all_but_routes(uint64_t seed)
     group_random_sights();
 }
 
-/* The seed again, so that the cases are the same whether the two parts run one after the other or at once. */
+/* Dice of its own, so that the cases are the same whether the two parts run one after the other or at once. */
 static void all_routes(uint64_t seed)
 {
     dice = dice_of(seed + 1);
