@@ -155,6 +155,9 @@ static void tell_job(const uint8_t *job, size_t length)
 
 static int same_bits(double a, double b) { return memcmp(&a, &b, sizeof a) == 0; }
 
+/* Answers have no gaps between their fields, so that all of them are compared, doubles by their bits. */
+#define SAME_ANSWER(a, b) (memcmp(&(a), &(b), sizeof(a)) == 0)
+
 static void tell_number(const char *what, uint64_t theirs, uint64_t ours)
 {
     tell("%-10s library %llu, second router %llu%s", what, (unsigned long long)theirs, (unsigned long long)ours,
@@ -248,7 +251,7 @@ static void check_sight(const struct leg_case *c, struct wexxolin_sight b, enum 
     const uint8_t *cells = lend_bytes(&cells_room, c->cells, c->cells_len, flush);
     struct wexxolin_sight a = wexxolin_sight(cells, c->cells_len, c->width, c->height, c->ax, c->ay, c->bx, c->by);
     count(3);
-    if (a.number == b.number && a.place == b.place && a.sight == b.sight)
+    if (SAME_ANSWER(a, b))
         return;
     tell_number("number", a.number, b.number);
     tell_number("place", a.place, b.place);
@@ -283,7 +286,7 @@ static void check_length(struct wexxolin_length a, struct wexxolin_length b, con
                          unsigned long long r, unsigned long long s)
 {
     count(4);
-    if (a.number == b.number && a.place == b.place && a.units == b.units && same_bits(a.cells, b.cells))
+    if (SAME_ANSWER(a, b))
         return;
     tell("%s (%lld, %lld, %llu, %llu)", call, p, q, r, s);
     tell_number("number", a.number, b.number);
@@ -297,7 +300,7 @@ static void check_direction(struct wexxolin_direction a, struct wexxolin_directi
                             long long q, unsigned long long r, unsigned long long s)
 {
     count(4);
-    if (a.number == b.number && a.place == b.place && same_bits(a.x, b.x) && same_bits(a.y, b.y))
+    if (SAME_ANSWER(a, b))
         return;
     tell("%s (%lld, %lld, %llu, %llu)", call, p, q, r, s);
     tell_number("number", a.number, b.number);
@@ -386,12 +389,6 @@ static void end_of_route(const struct route_case *c)
     end_of_telling();
 }
 
-static int same_answer(struct wexxolin_route a, struct wexxolin_route b)
-{
-    return a.number == b.number && a.place == b.place && same_bits(a.cells, b.cells) && a.units == b.units &&
-           a.vertices == b.vertices && a.expansions == b.expansions && a.tests == b.tests;
-}
-
 static uint64_t entry(const void *slice, size_t size, size_t i)
 {
     uint64_t value = 0;
@@ -467,7 +464,7 @@ static void check_route(const struct route_case *c, struct wexxolin_route b, enu
 {
     struct wexxolin_route a = call_route(c, flush);
     count(7);
-    if (!same_answer(a, b)) {
+    if (!SAME_ANSWER(a, b)) {
         tell_route(a, b, "the answers differ");
         end_of_route(c);
     }
@@ -684,8 +681,7 @@ static void check_board(const struct job_case *c, struct wexxolin_board b, const
     size_t all = PAD + c->board_len + PAD;
     count(5 + all);
     check_board_slice(a_board, b_board, old, all, b.number == 0 ? (size_t)(b.width * b.height) : 0);
-    int same = a.number == b.number && a.place == b.place && a.width == b.width && a.height == b.height && a.nets == b.nets;
-    if (same && !telling)
+    if (SAME_ANSWER(a, b) && !telling)
         return;
     tell_number("number", a.number, b.number);
     tell_number("place", a.place, b.place);
@@ -713,7 +709,7 @@ static void check_net(const struct job_case *c, struct wexxolin_net b, enum flus
     const uint8_t *bytes = lend_bytes(&job_room, c->job->bytes, c->job->length, flush);
     struct wexxolin_net a = wexxolin_net(bytes, c->job->length, c->index);
     count(7);
-    if (memcmp(&a, &b, sizeof a) == 0)
+    if (SAME_ANSWER(a, b))
         return;
     tell_number("number", a.number, b.number);
     tell_number("place", a.place, b.place);
