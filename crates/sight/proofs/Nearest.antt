@@ -20,7 +20,9 @@ use Rattle.sight.proofs.Seen.{axis-uncrossed, level-stop, upright-stop,
 use Rattle.sight.proofs.UnitEdges.{edge-low, edge-at, Placed, edge-placed, edge-gone, edge-met, no-unit-edge, none-between}
 
 same-or-not : (a b : ℕ) → (a ≡ b) ⊎ (a ≡ b → ⊥)
-same-or-not a b = ⊎-elim (λ (l : a < b). inr (λ e. omega arith)) (λ (g : b ≤ a). ⊎-elim (λ (l : b < a). inr (λ e. omega arith)) (λ (h : a ≤ b). inl (omega arith)) (order b a)) (order a b)
+same-or-not a b =
+    ⊎-elim (λ (l : a < b). inr (λ e. omega arith))
+    (λ (g : b ≤ a). ⊎-elim (λ (l : b < a). inr (λ e. omega arith)) (λ (h : a ≤ b). inl (omega arith)) (order b a)) (order a b)
 
 -- ---- the first unit edge with blocked cells on both sides, on the row or the column c
 
@@ -59,7 +61,8 @@ module _ (b : Board) (row : Bool) (c p q : ℕ) where
   later-edge {s} f {x} {y} e w =
       let o = edge-placed p q x y e in
       let first = edge-at p q (f .u) (f .u-in) in
-      let here : Placed p q (vertexAt p q (f .u)) (vertexAt p q (f .u + 1)) = record { steps = f .u; steps-in = f .u-in; low-is = sym (edge-low p q (f .u) (f .u-in)); first-is = refl; second-is = refl } in
+      let here : Placed p q (vertexAt p q (f .u)) (vertexAt p q (f .u + 1)) =
+      record { steps = f .u; steps-in = f .u-in; low-is = sym (edge-low p q (f .u) (f .u-in)); first-is = refl; second-is = refl } in
       ⊎-elim
       (λ (l : f .u < o .steps). inr (λ v w h k. gone-nearer (edge-gone first here v h) (edge-gone e o w k) l))
       (λ (l : o .steps ≤ f .u).
@@ -115,7 +118,8 @@ module _ (b : Board) (ax ay bx by : ℕ) where
       let stops : isClear (cellStop b ax ay bx by (cellAt ax bx u) (cellAt ay by v)) ≡ false = rw (ei, ej) (crossed-stops i j x w) in
       let far-on : u < f .u → ⊥ = λ l. true≢false (sym (ap isClear (first-none (far ay by) _ (f .columns u l) v hv)) ∙ stops) in
       let down-on : u ≡ f .u → v < f .v → ⊥ = λ e l. true≢false (sym (ap isClear (rw (← e) at (f .rows v l))) ∙ stops) in
-      let steps : (p q : Point) → Meets ax ay bx by p s → Meets ax ay bx by q (Cell i j) → (Gone (far ax bx) (f .u) p × Gone (far ay by) (f .v) p) × (Gone (far ax bx) u q × Gone (far ay by) v q) =
+      let steps : (p q : Point) → Meets ax ay bx by p s → Meets ax ay bx by q (Cell i j)
+      → (Gone (far ax bx) (f .u) p × Gone (far ay by) (f .v) p) × (Gone (far ax bx) u q × Gone (far ay by) v q) =
       λ p q h k. (
         cell-gone ax ay bx by _ _ (f .u) (f .v) (f .u-in) (f .v-in) refl refl p (subst (Meets ax ay bx by p) (sym (f .named)) h),
         cell-gone ax ay bx by i j u v hu hv ei ej q k,
@@ -176,7 +180,8 @@ module _ (b : Board) (ax ay bx by : ℕ) where
     unfolding edgeFrom walled
     level-first s d h =
         let f = first-edge b true ay ax bx s d h in
-        let w : rowWall b (min (vertexAt ax bx (f .u)) (vertexAt ax bx (f .u + 1))) ay ≡ true = rw (edge-low ax bx (f .u) (f .u-in)) (f .shut) in
+        let w : rowWall b (min (vertexAt ax bx (f .u)) (vertexAt ax bx (f .u + 1))) ay ≡ true =
+        rw (edge-low ax bx (f .u) (f .u-in)) (f .shut) in
         record {
           blocks = subst (Blocks b ax ay bx by) (f .named) (level e (edge-at ax bx (f .u) (f .u-in)) w);
           nearest = level-later f;
@@ -205,7 +210,8 @@ module _ (b : Board) (ax ay bx by : ℕ) where
     unfolding edgeFrom walled
     upright-first s d h =
         let f = first-edge b false ax ay by s d h in
-        let w : columnWall b ax (min (vertexAt ay by (f .u)) (vertexAt ay by (f .u + 1))) ≡ true = rw (edge-low ay by (f .u) (f .u-in)) (f .shut) in
+        let w : columnWall b ax (min (vertexAt ay by (f .u)) (vertexAt ay by (f .u + 1))) ≡ true =
+        rw (edge-low ay by (f .u) (f .u-in)) (f .shut) in
         record {
           blocks = subst (Blocks b ax ay bx by) (f .named) (upright e (edge-at ay by (f .u) (f .u-in)) w);
           nearest = upright-later f;

@@ -1,8 +1,8 @@
 -- The points of a leg, counted in columns or rows from its first end: a cell is crossed exactly if one of them lies in it. Assumes nothing.
 use Prim.Native.Nat.{ℕ, _+_, _*_, _-_, _≤_, _<_, min, max}
 use mathlib.Core.Path.{_≡_, refl, ap, subst₂}
-use mathlib.Core.Logic.{_⊎_, inl, inr, ⊎-elim}
-use mathlib.Core.Bool.{Bool, true}
+use mathlib.Core.Logic.{⊎-elim}
+use mathlib.Core.Bool.{true}
 use native.Mathlib.Nat.{mul-le-mul-left, mul-le-mul-right, mul-lt-mul-of-pos-left, mul-lt-mul-of-pos-right, lt-of-mul-lt-mul-left, lt-of-mul-lt-mul-right}
 use native.Mathlib.Omega.{arith}
 use Rattle.laws.proofs.Tests.{order}
@@ -32,13 +32,15 @@ module _ (a b s c d : ℕ) (hs : s < far a b) (low : min c d ≡ cellAt a b s) (
   abbrev whole : ℕ
   whole = parts p
 
-  rising : (e : a < b) → (along a b p ≡ a * whole + far a b * p .before) × (min c d * whole ≡ a * whole + s * whole) × (max c d * whole ≡ min c d * whole + whole)
+  rising : a < b
+      → (along a b p ≡ a * whole + far a b * p .before) × (min c d * whole ≡ a * whole + s * whole) × (max c d * whole ≡ min c d * whole + whole)
   rising e =
       let f : min c d ≡ a + s = omega (arith, low, cell-up a b s e) in
       let g : max c d ≡ min c d + 1 = omega (arith, low, high) in
       (weigh-up a b (far a b) (p .before) (p .behind) (omega arith), rw f (omega arith), rw g (omega arith))
 
-  falling : (e : b ≤ a) → (along a b p + far a b * p .before ≡ a * whole) × (a * whole ≡ min c d * whole + (s + 1) * whole) × (max c d * whole ≡ min c d * whole + whole)
+  falling : b ≤ a
+      → (along a b p + far a b * p .before ≡ a * whole) × (a * whole ≡ min c d * whole + (s + 1) * whole) × (max c d * whole ≡ min c d * whole + whole)
   falling e =
       let f : a ≡ min c d + (s + 1) = omega (arith, low, cell-down a b s e) in
       let g : max c d ≡ min c d + 1 = omega (arith, low, high) in
@@ -127,7 +129,8 @@ crosses-gone n m u v hu hv x =
     let out : ℕ = min ((u + 1) * m) ((v + 1) * n) in
     stretch into out (omega arith) (omega arith) (omega arith) (omega arith) (omega (arith, hu, hv, x)) (omega (arith, mul-le-mul-right m hu))
   where
-    stretch : (into out : ℕ) → u * m ≤ into → v * n ≤ into → out ≤ (u + 1) * m → out ≤ (v + 1) * n → into < out → out ≤ n * m → (p : Point) × Gone n u p × Gone m v p
+    stretch : (into out : ℕ) → u * m ≤ into → v * n ≤ into → out ≤ (u + 1) * m → out ≤ (v + 1) * n → into < out → out ≤ n * m
+        → (p : Point) × Gone n u p × Gone m v p
     stretch into out a b c d l e = (
       midway (n * m) into out l e,
       midway-gone (n * m) into out l e n m u refl (omega arith) a c,
@@ -145,11 +148,13 @@ module _ (ax ay bx by i j : ℕ) where
   module _ (u v : ℕ) (hu : u < n) (hv : v < m) (ei : cellAt ax bx u ≡ i) (ej : cellAt ay by v ≡ j) where
     pub cell-gone : (p : Point) → Meets ax ay bx by p (Cell i j) → Gone n u p × Gone m v p
     cell-gone p h =
-        (gone-out ax bx u i (i + 1) hu (omega (arith, ei)) (omega (arith, ei)) p (h .0), gone-out ay by v j (j + 1) hv (omega (arith, ej)) (omega (arith, ej)) p (h .1))
+        (gone-out ax bx u i (i + 1) hu (omega (arith, ei)) (omega (arith, ei)) p (h .0),
+        gone-out ay by v j (j + 1) hv (omega (arith, ej)) (omega (arith, ej)) p (h .1))
 
     cell-met : (p : Point) → Gone n u p → Gone m v p → Meets ax ay bx by p (Cell i j)
     cell-met p g h =
-        (gone-in ax bx u i (i + 1) hu (omega (arith, ei)) (omega (arith, ei)) p g, gone-in ay by v j (j + 1) hv (omega (arith, ej)) (omega (arith, ej)) p h)
+        (gone-in ax bx u i (i + 1) hu (omega (arith, ei)) (omega (arith, ei)) p g,
+        gone-in ay by v j (j + 1) hv (omega (arith, ej)) (omega (arith, ej)) p h)
 
   pub met-crossed : (p : Point) → Meets ax ay bx by p (Cell i j) → crossed ax ay bx by i j ≡ true
   met-crossed p h =

@@ -93,4 +93,8 @@ no-unit-edge a b p q e h = let (l, m) = between-out a b (min p q) (h .on) in ome
 
 -- nothing of a leg lies strictly between equal coordinates
 pub none-between : (a b c : ℕ) (x : Point) → Strictly a b c c x → ⊥
-none-between a b c x h = let e : min c c ≡ c = omega arith in let f : max c c ≡ c = omega arith in let (l, m) = rw (e, f) at h in omega (arith, l, m)
+none-between a b c x h =
+    let e : min c c ≡ c = omega arith in
+    let f : max c c ≡ c = omega arith in
+    let (l, m) = rw (e, f) at h in
+    omega (arith, l, m)
