@@ -4,7 +4,7 @@ use mathlib.Core.Path.{_≡_, refl, sym, ap, ap₂, _∙_, subst}
 use mathlib.Core.Logic.{_⊎_, inl, inr, ⊎-elim}
 use mathlib.Core.Bool.{Bool, true, false, _&&_, true≢false}
 use native.Mathlib.Omega.{arith}
-use Rattle.laws.proofs.Tests.{order, and-left, and-right}
+use Rattle.laws.proofs.Tests.{order, bool-cases, and-left, and-right}
 use Rattle.board.specs.Board.{Board, blocked}
 use Rattle.sight.specs.declared.Stop.{Stop}
 use Rattle.sight.specs.declared.Stop.the-variants.{Clear, Cell, Edge}
@@ -271,6 +271,13 @@ module _ (b : Board) (ax ay bx by : ℕ) where
       let (p, h) = blocks-met s (f .blocks) in
       let (q, k) = blocks-met t (g .blocks) in
       absurd (nearer-asym p q (st p q h k) (ts q p k h))) (g .nearest s (f .blocks))) (f .nearest t (g .blocks))
+
+  -- which is the first stop
+  pub first-stops : (s : Stop) → StopsFirst b ax ay bx by s → firstStop b ax ay bx by ≡ s
+  first-stops s f =
+      let stop = firstStop b ax ay bx by in
+      ⊎-elim (λ (c : isClear stop ≡ true). absurd (clear-unblocked (clear-is stop c) s (f .blocks)))
+      (λ (c : isClear stop ≡ false). first-one stop s (stop-first stop refl c) f) (bool-cases (isClear stop))
 
   -- and a leg with sight is one that nothing blocks
   module _ (on : EndsOn b ax ay bx by) where
