@@ -4,7 +4,7 @@
 set -eu
 . "$(dirname "$0")/settings.sh"
 scale=${1:-1} seed=${2:-1}
-rooms="$root/tests/rooms.c" dice="$root/tests/boards.c" second="$root/tests/second/second.c"
+rooms=$OUT/rooms.o boards=$OUT/boards.o second=$OUT/second.o
 running=
 trap 'kill $running 2>/dev/null || true' EXIT
 
@@ -24,12 +24,16 @@ finish() {
     [ $status = 0 ] || exit 1
 }
 
-beside building build agree "$root/tests/agree.c" "$rooms" "$dice" "$second"
-build thrown "$root/tests/thrown.c" "$dice" "$second"
-build far "$root/tests/far.c" "$rooms" "$dice" "$second"
-build stack "$root/tests/stack.c" "$rooms" "$dice"
+beside agree part agree "$root/tests/agree.c"
+part rooms "$root/tests/rooms.c"
+part boards "$root/tests/boards.c"
+part second "$root/tests/second/second.c"
+build thrown "$root/tests/thrown.c" "$boards" "$second"
+build far "$root/tests/far.c" "$rooms" "$boards" "$second"
+build stack "$root/tests/stack.c" "$rooms" "$boards"
 build example "$root/examples/route.c"
-finish building
+finish agree
+build agree "$OUT/agree.o" "$rooms" "$boards" "$second"
 
 beside routes $RUN "$OUT/agree" "$scale" "$seed" "$OUT/agree-difference.hex" routes
 beside thrown $RUN "$OUT/thrown" "$scale" "$seed" "$root/tests/run_route.sh"

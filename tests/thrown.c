@@ -17,6 +17,7 @@
 
 enum {
     LONGEST_JOB = 8192,
+    LAST_NUMBER = 20,
     LONGEST_INPUT = 60000, /* fits into a pipe, so that it can be written before anything is read */
     PATIENCE = 60          /* seconds after which a program that has not ended is killed */
 };
@@ -106,22 +107,24 @@ static void tell(const struct job *job, const struct second_text *theirs, const 
         fprintf(stderr, "%02x%s", job->bytes[i], i % 8 == 7 || i + 1 == job->length ? "\n" : "");
 }
 
-/* Returns whether the job was accepted. */
-static int compare(const struct job *job)
+/* Returns the number that the job is refused by, or 0. */
+static unsigned compare(const struct job *job)
 {
     struct second_text theirs = {0}, ours = {0};
     int status = run(job, &theirs);
     second_lines(job->bytes, job->length, &ours);
     int started = WIFEXITED(status) && WEXITSTATUS(status) < 126;
     int same = theirs.length == ours.length && (ours.length == 0 || memcmp(theirs.bytes, ours.bytes, ours.length) == 0);
-    int accepted = ours.length == 0 || ours.bytes[0] == 'n';
     if (!started || !same) {
         tell(job, &theirs, &ours, status);
         exit(1);
     }
+    unsigned number = 0;
+    if (ours.length > 0 && sscanf(ours.bytes, "refused %u", &number) != 1)
+        number = 0;
     free(theirs.bytes);
     free(ours.bytes);
-    return accepted;
+    return number;
 }
 
 /* ---------- jobs ---------- */
@@ -171,14 +174,18 @@ int main(int argc, char **argv)
         fprintf(stderr, "usage: thrown SCALE SEED COMMAND...\n");
         return 2;
     }
-    size_t jobs = 600 * (size_t)strtoull(argv[1], NULL, 0), accepted = 0;
+    size_t jobs = 600 * (size_t)strtoull(argv[1], NULL, 0), times[LAST_NUMBER + 1] = {0};
     dice = dice_of(strtoull(argv[2], NULL, 0));
     command = argv + 3;
     signal(SIGPIPE, SIG_IGN);
     for (size_t k = 0; k < jobs; k++) {
         throw_job(&job, k);
-        accepted += (size_t)compare(&job);
+        times[compare(&job)]++;
     }
-    printf("jobs thrown at the program, seed %s: %zu compared, %zu of them accepted\n", argv[2], jobs, accepted);
+    printf("jobs thrown at the program, seed %s: %zu compared, %zu of them accepted; refused by", argv[2], jobs, times[0]);
+    for (size_t number = 1; number <= LAST_NUMBER; number++)
+        if (times[number])
+            printf(" %zu: %zu", number, times[number]);
+    printf("\n");
     return 0;
 }
