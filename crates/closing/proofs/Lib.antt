@@ -1,0 +1,3 @@
+pub mod Says
+pub mod FirstBad
+pub mod Table
