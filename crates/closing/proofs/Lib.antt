@@ -3,3 +3,5 @@ pub mod FirstBad
 pub mod Table
 pub mod Marked
 pub mod Leaving
+pub mod Closing
+pub mod Examples

@@ -12,7 +12,7 @@ use Rattle.laws.proofs.Tests.{order, and-left, and-right}
 use Rattle.board.specs.Limits.{largestSide}
 use Rattle.board.specs.Board.{Board, isVertex, vertices, number}
 use Rattle.board.specs.Inner.{OnBoard}
-use Rattle.board.specs.Handed.{Verdict, passes, refused, row, andThen, Handed, unless, secondIn, sideFits, firstBad, boardRows, endRows}
+use Rattle.board.specs.Handed.{Verdict, passes, refused, row, andThen, Handed, unless, sideFits, firstBad, boardRows, endRows}
 use Rattle.reach.specs.Turns.{at}
 use Rattle.theta.specs.Search.{Problem, search, path}
 use Rattle.search.specs.Problem.{problem}
@@ -177,3 +177,34 @@ module _ (b : Board) (sx sy gx gy : ℕ) (lent : Slices) where
   row-only =
       unplaced-one (unplaced-one (row-one (one-wrong (b .cells)) (unplaced-one (unplaced-one (unplaced-one
       (row-one (λ p q c d. c .0 ∙ sym (d .0)) (unplaced-one (unplaced-one (λ n p m q r s. absurd r)))))))))
+
+  -- ---- what comes with the number
+
+  -- no second place, and no value with 1 to 7
+  abbrev Bare : Handed Route → Type 0
+  Bare h = (h .second ≡ 0) × (0 < h .number → h .number < 8 → h .values ≡ noRoute)
+
+  last-bare : Bare searching
+  unfolding searchRow
+  last-bare = go (search (problem b sx sy gx gy) .found) (ltb (length (lent .path)) (length (thePath b sx sy gx gy)))
+    where
+      go : (f l : Bool)
+          → let s = search (problem b sx sy gx gy) .state in
+          let n = length (thePath b sx sy gx gy) in
+          Bare (cond f (unless noRoute (row l 7 n) (found (at (s .g) (problem b sx sy gx gy .goal)) n (s .expansions) (s .tests)))
+          (none (s .expansions) (s .tests)))
+      go true true = (refl, λ l m. refl)
+      go true false = (refl, λ l m. absurd (omega arith))
+      go false l = (refl, λ l m. absurd (omega arith))
+
+  pub row-bare : Bare (routeRow b sx sy gx gy lent)
+  row-bare =
+      let end = rows-bare short 6 0 passes last-bare in
+      let five = rows-bare (not (isVertex b gx gy)) 5 0 _ end in
+      let four = rows-bare (not (isVertex b sx sy)) 4 0 _ five in
+      let three = rows-bare bad 3 (firstBad (b .cells)) _ four in
+      subst Bare (sym in-order) (rows-bare sides 1 0 _ (rows-bare count 2 0 _ three))
+    where
+      rows-bare : (t : Bool) (k q : ℕ) (v : Verdict) → Bare (unless noRoute v searching) → Bare (unless noRoute (andThen (row t k q) v) searching)
+      rows-bare true k q v B = (refl, λ l m. refl)
+      rows-bare false k q v B = B
