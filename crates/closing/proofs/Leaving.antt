@@ -14,6 +14,7 @@ use Rattle.board.specs.Handed.{Handed}
 use Rattle.reach.specs.Turns.{at}
 use Rattle.theta.specs.Search.{Problem, search, path}
 use Rattle.theta.specs.Demands.{Work}
+use Rattle.theta.proofs.Completeness.{none-open, none-expanded}
 use Rattle.theta.proofs.Routes.{goal-open}
 use Rattle.search.specs.Problem.{problem}
 use Rattle.search.proofs.Fair.{board-fair}
@@ -22,7 +23,6 @@ use Rattle.router.specs.Answers.{Route, Slices, searchRow, routeRow, searched, 
 use Rattle.router.proofs.Written.{Filled, filled-beyond, filled-front, filled-at}
 use Rattle.router.proofs.Demands.{start-on, row-searched, row-path, row-none, eight-none, other-found, success, failure, route-rightly}
 use Rattle.closing.specs.Demands.{Kept, Theta, Searched, Left}
-use Rattle.closing.proofs.Marked.{none-open, none-expanded}
 
 -- the search has run
 ran : (n : ℕ) → Searched n → searched n ≡ true

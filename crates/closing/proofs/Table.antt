@@ -13,6 +13,7 @@ use Rattle.board.specs.Limits.{largestSide}
 use Rattle.board.specs.Board.{Board, isVertex, vertices, number}
 use Rattle.board.specs.Inner.{OnBoard}
 use Rattle.board.specs.Handed.{Verdict, passes, refused, row, andThen, Handed, unless, sideFits, firstBad, boardRows, endRows}
+use Rattle.board.proofs.Bytes.{bad-wrong, bad-before}
 use Rattle.reach.specs.Turns.{at}
 use Rattle.theta.specs.Search.{Problem, search, path}
 use Rattle.search.specs.Problem.{problem}
@@ -20,7 +21,6 @@ use Rattle.search.proofs.Theorems.{board-complete}
 use Rattle.router.specs.Answers.{Route, noRoute, found, none, Slices, workRow, searchRow, routeRow}
 use Rattle.router.specs.Demands.{Joined}
 use Rattle.closing.specs.Demands.{WrongSide, FirstWrong, OffBoard, ShortWork, thePath, Row, holds, passed, Unplaced, Never, Given}
-use Rattle.closing.proofs.FirstBad.{bad-wrong, bad-before}
 use Rattle.closing.proofs.Says.{Says, says-below, says-above, says-zero, says-differ, says-either, says-not-both}
 
 -- ---- one row
