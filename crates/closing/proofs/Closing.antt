@@ -10,7 +10,7 @@ use Rattle.router.proofs.Demands.{route-exhaustive}
 use Rattle.capi.specs.declared.Found.{Found}
 use Rattle.capi.specs.Told.{toldRoute, RoutedForC}
 use Rattle.closing.specs.Demands.{Given, Numbered, Kept, Theta, Searched, Left, fields}
-use Rattle.closing.proofs.Table.{row-first, row-only, row-bare}
+use Rattle.closing.proofs.Table.{row-first, row-only, row-known, row-bare}
 use Rattle.closing.proofs.Leaving.{kept, as-theta, left}
 
 -- ---- the route call, by its contract
@@ -24,6 +24,7 @@ module _ {b : Board} {sx sy gx gy : ℕ} {before after : Slices} {h : Handed Rou
       record {
         given = given;
         only = λ n place g. row-only b sx sy gx gy before n place (h .number) (h .place) g given;
+        known = row-known b sx sy gx gy before given;
         second = ap (λ (x : Handed Route). x .second) (R .row-is) ∙ bare .0;
         no-values = rw (R .row-is) (bare .1);
       }

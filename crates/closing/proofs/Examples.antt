@@ -22,13 +22,20 @@ pub routed : (b : Board) (sx sy gx gy : ℕ) (before : Slices)
     Routed b sx sy gx gy before (slicesAfter (problem b sx sy gx gy) (h .number) before) h
 routed b sx sy gx gy before = record { row-is = refl; after-is = refl }
 
+-- one cell, free and blocked
+abbrev pub free : Board
+free = board (0 ∷ []) 1 1
+
+abbrev pub full : Board
+full = board (1 ∷ []) 1 1
+
 -- work slices for four vertices, and a path slice
 abbrev pub lent : (path : ℕ) → Slices
 lent path = slices (replicate 4 0) (replicate 4 0) (replicate 4 0) (replicate path 0)
 
 -- from (0, 0) to (1, 1): the cell is free; free, and the path slice is too short; blocked
-pub examples : (routeRow (board (0 ∷ []) 1 1) 0 0 1 1 (lent 2) .number ≡ 0) × (routeRow (board (0 ∷ []) 1 1) 0 0 1 1 (lent 1) .number ≡ 7)
-    × (routeRow (board (1 ∷ []) 1 1) 0 0 1 1 (lent 2) .number ≡ 8)
+pub examples : (routeRow free 0 0 1 1 (lent 2) .number ≡ 0) × (routeRow free 0 0 1 1 (lent 1) .number ≡ 7)
+    × (routeRow full 0 0 1 1 (lent 2) .number ≡ 8)
 unfolding unitsOf root rootIn blocked side positive negative someCorner spans crossed every cellsFree rowWall columnWall between edgesOpen sees
     neighbours visible turns initial sooner least choose wins around close expand search trail problem firstBad boardRows endRows workRow searchRow routeRow
 examples = (refl, refl, refl)

@@ -3,3 +3,4 @@ pub mod Table
 pub mod Leaving
 pub mod Closing
 pub mod Examples
+pub mod Wrong

@@ -8,19 +8,19 @@ use native.Mathlib.Omega.{arith}
 use lib.Dec.{leb, ltb, eqb}
 use lib.ListN.{length}
 use borrow.Author.Tests.{not-false, leb-true, ltb-true, ltb-false}
-use Rattle.laws.proofs.Tests.{order, and-left, and-right}
+use Rattle.laws.proofs.Tests.{order}
 use Rattle.board.specs.Limits.{largestSide}
 use Rattle.board.specs.Board.{Board, isVertex, vertices, number}
 use Rattle.board.specs.Inner.{OnBoard}
 use Rattle.board.specs.Handed.{Verdict, passes, refused, row, andThen, Handed, unless, sideFits, firstBad, boardRows, endRows}
 use Rattle.board.proofs.Bytes.{bad-wrong, bad-before}
+use Rattle.board.proofs.Rows.{on-board}
 use Rattle.reach.specs.Turns.{at}
 use Rattle.theta.specs.Search.{Problem, search, path}
 use Rattle.search.specs.Problem.{problem}
 use Rattle.search.proofs.Theorems.{board-complete}
 use Rattle.router.specs.Answers.{Route, noRoute, found, none, Slices, workRow, searchRow, routeRow}
-use Rattle.router.specs.Demands.{Joined}
-use Rattle.closing.specs.Demands.{WrongSide, FirstWrong, OffBoard, ShortWork, thePath, Row, holds, passed, Unplaced, Never, Given}
+use Rattle.closing.specs.Demands.{WrongSide, FirstWrong, OffBoard, ShortWork, HasPath, thePath, Row, holds, passed, Unplaced, GivenBySearch, Given}
 use Rattle.closing.proofs.Says.{Says, says-below, says-above, says-zero, says-differ, says-either, says-not-both}
 
 -- ---- one row
@@ -50,6 +50,11 @@ row-one u o n p m q (passed x r) (passed y s) = o n p m q r s
 
 unplaced-one : {k : ℕ} {C : Type 0} {After : ℕ → ℕ → Type 0} → AtMostOne After → AtMostOne (Row k (Unplaced C) After)
 unplaced-one o = row-one (λ p q c d. c .0 ∙ sym (d .0)) o
+
+-- no number above 8
+row-most : {k : ℕ} {C : ℕ → Type 0} {After : ℕ → ℕ → Type 0} {n p : ℕ} → leb k 8 ≡ true → (After n p → n ≤ 8) → Row k C After n p → n ≤ 8
+row-most {k} l more (holds e c) = omega (arith, leb-true k 8 l)
+row-most l more (passed x r) = more r
 
 -- ---- the conditions
 
@@ -125,30 +130,15 @@ module _ (b : Board) (sx sy gx gy : ℕ) (lent : Slices) where
       (says-either (ltb (length (lent .parents)) (vertices b)) (ltb (length (lent .marks)) (vertices b))
       (says-below (length (lent .parents)) (vertices b)) (says-below (length (lent .marks)) (vertices b)))
 
-  start-on : not (isVertex b sx sy) ≡ false → OnBoard b sx sy
-  start-on e =
-      let v = not-false (isVertex b sx sy) e in
-      record {
-        x-on = leb-true sx (b .width) (and-left (leb sx (b .width)) (leb sy (b .height)) v);
-        y-on = leb-true sy (b .height) (and-right (leb sx (b .width)) (leb sy (b .height)) v);
-      }
-
   -- the rows 7, 8 and 0
-  abbrev Last : ℕ → ℕ → Type 0
-  Last =
-      Row 7 (λ needed.
-          (needed ≡ length (thePath b sx sy gx gy)) × Joined b sx sy gx gy (number b gx gy) × (length (lent .path) < needed))
-      (Row 8 (Unplaced (Joined b sx sy gx gy (number b gx gy) → ⊥))
-      (Row 0 (Unplaced (Joined b sx sy gx gy (number b gx gy) × (length (thePath b sx sy gx gy) ≤ length (lent .path)))) Never))
-
-  last-given : OnBoard b sx sy → Last (searching .number) (searching .place)
+  last-given : OnBoard b sx sy → GivenBySearch b sx sy gx gy lent (searching .number) (searching .place)
   unfolding searchRow
   last-given S = go (search (problem b sx sy gx gy) .found) (ltb (length (lent .path)) (length (thePath b sx sy gx gy))) refl refl
     where
-      joined : search (problem b sx sy gx gy) .found ≡ true → Joined b sx sy gx gy (number b gx gy)
+      joined : search (problem b sx sy gx gy) .found ≡ true → HasPath b sx sy gx gy
       joined e = board-complete b sx sy gx gy S .found-reach e
 
-      apart : search (problem b sx sy gx gy) .found ≡ false → Joined b sx sy gx gy (number b gx gy) → ⊥
+      apart : search (problem b sx sy gx gy) .found ≡ false → HasPath b sx sy gx gy → ⊥
       apart e j = true≢false (sym (board-complete b sx sy gx gy S .reach-found j) ∙ e)
 
       go : (f l : Bool) → search (problem b sx sy gx gy) .found ≡ f → ltb (length (lent .path)) (length (thePath b sx sy gx gy)) ≡ l
@@ -156,7 +146,7 @@ module _ (b : Board) (sx sy gx gy : ℕ) (lent : Slices) where
           let n = length (thePath b sx sy gx gy) in
           let h = cond f (unless noRoute (row l 7 n) (found (at (s .g) (problem b sx sy gx gy .goal)) n (s .expansions) (s .tests)))
           (none (s .expansions) (s .tests)) in
-          Last (h .number) (h .place)
+          GivenBySearch b sx sy gx gy lent (h .number) (h .place)
       go true true e l = holds refl (refl, joined e, ltb-true (length (lent .path)) (length (thePath b sx sy gx gy)) l)
       go true false e l =
           let fits : length (thePath b sx sy gx gy) ≤ length (lent .path) = ltb-false (length (lent .path)) (length (thePath b sx sy gx gy)) l in
@@ -171,12 +161,17 @@ module _ (b : Board) (sx sy gx gy : ℕ) (lent : Slices) where
       (λ e₂. row-given bad (firstBad (b .cells)) _ searching (λ e. first-wrong (b .cells) (ltb-true _ _ e)) (λ e. none-wrong (b .cells) (ltb-false _ _ e))
       (λ e₃. unplaced-given (not (isVertex b sx sy)) _ searching (off-board b sx sy)
       (λ e₄. unplaced-given (not (isVertex b gx gy)) _ searching (off-board b gx gy)
-      (λ e₅. unplaced-given short passes searching short-work (λ e₆. last-given (start-on e₄))))))))
+      (λ e₅. unplaced-given short passes searching short-work (λ e₆. last-given (on-board b sx sy (not-false (isVertex b sx sy) e₄)))))))))
 
   pub row-only : AtMostOne (Given b sx sy gx gy lent)
   row-only =
       unplaced-one (unplaced-one (row-one (one-wrong (b .cells)) (unplaced-one (unplaced-one (unplaced-one
       (row-one (λ p q c d. c .0 ∙ sym (d .0)) (unplaced-one (unplaced-one (λ n p m q r s. absurd r)))))))))
+
+  pub row-known : {n p : ℕ} → Given b sx sy gx gy lent n p → n ≤ 8
+  row-known =
+      row-most refl (row-most refl (row-most refl (row-most refl (row-most refl (row-most refl
+      (row-most refl (row-most refl (row-most refl (λ r. absurd r)))))))))
 
   -- ---- what comes with the number
 

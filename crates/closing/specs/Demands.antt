@@ -35,6 +35,10 @@ OffBoard b x y = (b .width < x) ⊎ (b .height < y)
 abbrev pub ShortWork : Board → Slices → Type 0
 ShortWork b lent = (length (lent .g) < vertices b) ⊎ ((length (lent .parents) < vertices b) ⊎ (length (lent .marks) < vertices b))
 
+-- single moves between visible neighbours join the start to the goal
+abbrev pub HasPath : Board → (sx sy gx gy : ℕ) → Type 0
+HasPath b sx sy gx gy = Joined b sx sy gx gy (number b gx gy)
+
 -- what Basic Theta* ends with, and the path that it finds
 abbrev pub ended : Board → (sx sy gx gy : ℕ) → State
 ended b sx sy gx gy = search (problem b sx sy gx gy) .state
@@ -57,6 +61,13 @@ Unplaced Condition place = (place ≡ 0) × Condition
 abbrev pub Never : (n place : ℕ) → Type 0
 Never n place = ⊥
 
+-- the rows 7, 8 and 0, once the search has run
+abbrev pub GivenBySearch : Board → (sx sy gx gy : ℕ) → (lent : Slices) → (n place : ℕ) → Type 0
+GivenBySearch b sx sy gx gy lent =
+    Row 7 (λ needed. (needed ≡ length (thePath b sx sy gx gy)) × HasPath b sx sy gx gy × (length (lent .path) < needed))
+    (Row 8 (Unplaced (HasPath b sx sy gx gy → ⊥))
+    (Row 0 (Unplaced (HasPath b sx sy gx gy × (length (thePath b sx sy gx gy) ≤ length (lent .path)))) Never))
+
 -- the number and the place that a request is given: the first row whose condition holds decides, and one always does
 abbrev pub Given : Board → (sx sy gx gy : ℕ) → (lent : Slices) → (n place : ℕ) → Type 0
 Given b sx sy gx gy lent =
@@ -64,20 +75,15 @@ Given b sx sy gx gy lent =
     (Row 2 (Unplaced (length (b .cells) ≢ b .width * b .height))
     (Row 3 (FirstWrong (b .cells))
     (Row 4 (Unplaced (OffBoard b sx sy))
-    (Row 5 (Unplaced (OffBoard b gx gy))
-    (Row 6 (Unplaced (ShortWork b lent))
-    (Row 7 (λ needed.
-        (needed ≡ length (thePath b sx sy gx gy)) × Joined b sx sy gx gy (number b gx gy) × (length (lent .path) < needed))
-    (Row 8 (Unplaced (Joined b sx sy gx gy (number b gx gy) → ⊥))
-    (Row 0
-    (Unplaced (Joined b sx sy gx gy (number b gx gy) × (length (thePath b sx sy gx gy) ≤ length (lent .path)))) Never))))))))
+    (Row 5 (Unplaced (OffBoard b gx gy)) (Row 6 (Unplaced (ShortWork b lent)) (GivenBySearch b sx sy gx gy lent))))))
 
 -- ---- demand 1
 
--- the number and the place are the table's and no other's; no second place; a refusal has no other value
+-- the number and the place are the table's, and no other number or place is; there is no second place; a refusal has no other value
 pub record Numbered (b : Board) (sx sy gx gy : ℕ) (before : Slices) (h : Handed Route) : Type 0 where
   pub given : Given b sx sy gx gy before (h .number) (h .place)
   pub only : (n place : ℕ) → Given b sx sy gx gy before n place → (n ≡ h .number) × (place ≡ h .place)
+  pub known : h .number ≤ 8
   pub second : h .second ≡ 0
   pub no-values : 0 < h .number → h .number < 8 → h .values ≡ noRoute
 

@@ -70,11 +70,11 @@ module _ {p : Problem} (F : Fair p) where
     none-open e =
         let seen : seenIn (search p .state .mark) v ≡ true = rw e refl in
         let undone : doneIn (search p .state .mark) v ≡ false = rw e refl in
-        false≢true (sym undone ∙ search-stopped F .idle f v l seen)
+        false≢true (sym undone ∙ search-stopped .idle f v l seen)
 
     pub none-expanded : (at (search p .state .mark) v ≡ 2) ↔ Reach (p .near) (p .start) v
     none-expanded = (
       (λ e. let done : doneIn (search p .state .mark) v ≡ true = rw e refl in
-          search-stopped F .sane .inv .sound v l (search-stopped F .sane .inv .within v l done)),
-      (λ r. eqb-true (at (search p .state .mark) v) 2 (all-done (F .ground) (search-stopped F .sane .inv) (search-stopped F .idle f) r)),
+          search-stopped .sane .inv .sound v l (search-stopped .sane .inv .within v l done)),
+      (λ r. eqb-true (at (search p .state .mark) v) 2 (all-done (F .ground) (search-stopped .sane .inv) (search-stopped .idle f) r)),
     )
