@@ -17,8 +17,8 @@ use Rattle.length.proofs.Floats.{cells-exact}
 use Rattle.reach.specs.Turns.{at}
 use Rattle.theta.specs.Search.{Problem, search, path}
 use Rattle.theta.specs.Lent.{Searched}
-use Rattle.search.specs.Problem.{problem}
-use Rattle.search.proofs.Theorems.{board-complete, board-tested, board-route, board-measured, found-units, found-exact}
+use Rattle.problem.specs.Problem.{problem}
+use Rattle.problem.proofs.Theorems.{board-complete, board-tested, board-route, board-measured, found-units, found-exact}
 use Rattle.router.specs.Answers.{Route, noRoute, found, none, Slices, workRow, searchRow, routeRow, searched, Routed}
 use Rattle.router.specs.Demands.{Exhaustive, Rightly}
 

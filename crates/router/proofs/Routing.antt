@@ -19,7 +19,7 @@ use Rattle.reach.specs.Turns.{at}
 use Rattle.theta.specs.Search.{Problem, search, path}
 use Rattle.theta.specs.Demands.{Work}
 use Rattle.theta.specs.Lent.{Searched}
-use Rattle.search.specs.Problem.{problem}
+use Rattle.problem.specs.Problem.{problem}
 use Rattle.router.specs.Answers.{Route, noRoute, none, found, searchRow, Slices, slices, workRow, routeRow, searched, written, slicesAfter, Routed}
 use Rattle.router.specs.Inside.{pathOf, PathGiven, Ran}
 

@@ -4,8 +4,9 @@ use mathlib.Core.List.{List, _++_}
 use Prim.Native.Nat.{ℕ}
 use lib.ListN.{set, replicate, drop}
 use Rattle.theta.specs.Lent.{Ready}
-use Rattle.search.specs.declared.Request.{Request}
-use Rattle.search.specs.Request.{asked, largest}
+use Rattle.round.specs.declared.Request.{Request}
+use Rattle.problem.specs.Sizes.{largest}
+use Rattle.round.specs.Request.{asked}
 
 -- zeros for each of n vertices, and the start has itself as parent; what lies beyond is kept
 pub record Cleared (n start : ℕ) (g parent mark g′ parent′ mark′ : List ℕ) : Type 0 where

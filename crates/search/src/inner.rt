@@ -1,18 +1,13 @@
 // Calls for the crates above, which have checked their board: each says what it requires.
-ghost use mathlib.Core.Path.{_≡_};
-ghost use mathlib.Core.List.{_++_};
-ghost use Prim.Native.Nat.{_+_, _*_, _≤_};
-ghost use lib.ListN.{length, drop};
+ghost use Prim.Native.Nat.{_≤_};
+ghost use lib.ListN.{length};
 ghost use Rattle.board.specs.Board.{board, vertices};
 ghost use Rattle.board.specs.Inner.{Sound, OnBoard};
 ghost use Rattle.table.specs.Lengths.{smallSide, middleSide, Known};
-ghost use Rattle.theta.specs.Search.{trail};
 ghost use Rattle.theta.specs.Lent.{Searched};
-ghost use Rattle.theta.specs.Back.{Traced};
-ghost use Rattle.search.specs.Problem.{problem};
-ghost use Rattle.search.specs.Request.{asked, sizeOf, diagonal, Asked};
+ghost use Rattle.problem.specs.Problem.{problem};
+ghost use Rattle.round.specs.Request.{asked, sizeOf, diagonal, Asked};
 use crate::Outcome;
-use crate::Request;
 use crate::turns::begin;
 use crate::turns::run;
 use board::LINE;
@@ -22,6 +17,7 @@ use board::inner::number_of;
 use open::list::GROUP;
 use open::list::open_vertex;
 use open::tree::NO_KEY;
+use round::Request;
 use table::MIDDLE_SIDE;
 use table::SMALL_SIDE;
 use table::large_lengths;
@@ -164,40 +160,4 @@ pub fn find(
         return find_middle(cells, request, g, parents, marks);
     }
     find_large(cells, request, g, parents, marks)
-}
-
-// How many vertices the path to the goal has, by the parents.
-pub fn count_path(start: Vertex, goal: Vertex, parents: &[Vertex]) -> usize
-    requires { ⌜ Traced (length (now parents)) start (now parents) goal ⌝ }
-    ensures { λ r. ⌜ r ≡ length (trail start (now (parents .entry)) (length (now (parents .entry))) goal) ⌝ }
-{
-    let mut v = goal;
-    let mut count = 1;
-    while v != start {
-        v = parents[v as usize];
-        count += 1;
-    }
-    count
-}
-
-// Writes the path to the goal, of that many vertices, start first; what lies beyond it is kept.
-pub fn write_path(
-    start: Vertex,
-    goal: Vertex,
-    count: usize,
-    parents: &[Vertex],
-    path: &mut [Vertex],
-)
-    requires { ⌜ Traced (length (now parents)) start (now parents) goal ⌝ }
-    requires { ⌜ (count ≡ length (trail start (now parents) (length (now parents)) goal)) × (count ≤ length (now path)) ⌝ }
-    ensures { λ r. ⌜ now (path .exit) ≡ trail start (now (parents .entry)) (length (now (parents .entry))) goal ++ drop count (now (path .entry)) ⌝ }
-{
-    let mut v = goal;
-    let mut i = count;
-    while 1 < i {
-        i -= 1;
-        path[i] = v;
-        v = parents[v as usize];
-    }
-    path[0] = start;
 }

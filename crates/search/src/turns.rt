@@ -8,14 +8,11 @@ ghost use Rattle.board.specs.Board.{columnOf, rowOf};
 ghost use Rattle.reach.specs.Turns.{turns};
 ghost use Rattle.table.specs.Lengths.{Known};
 ghost use Rattle.theta.specs.Search.{basic};
-ghost use Rattle.search.specs.Request.{asked, sizeOf, diagonal, Asked};
+ghost use Rattle.round.specs.Request.{asked, sizeOf, diagonal, Asked};
 ghost use Rattle.theta.specs.Lent.{Begun, Begins, state, Rounded};
 ghost use Rattle.search.specs.Turns.{Cleared, Taking};
-ghost use Rattle.search.specs.Round.{ListedFor};
+ghost use Rattle.round.specs.Round.{ListedFor};
 use crate::Outcome;
-use crate::Request;
-use crate::Spot;
-use crate::round::round;
 use board::Vertex;
 use board::inner::column_of;
 use board::inner::number_of;
@@ -23,6 +20,9 @@ use board::inner::row_of;
 use open::list::close_vertex;
 use open::tree::NO_KEY;
 use open::tree::first;
+use round::Request;
+use round::Spot;
+use round::inner::round;
 
 // Zeros for the first n of each; what lies beyond is kept. A loop for each slice, since slices may overlap as far as the compiler knows.
 fn clear_g(n: usize, g: &mut [u64])

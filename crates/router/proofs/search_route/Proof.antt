@@ -7,8 +7,8 @@ use Rattle.board.specs.Board.{Board, board}
 use Rattle.board.proofs.Numbers.{number-below}
 use Rattle.theta.specs.Search as theta
 use Rattle.theta.specs.Demands.{Work}
-use Rattle.search.specs.Problem.{problem}
-use Rattle.search.proofs.Theorems.{board-work, found-traced, found-path, found-units, found-exact}
+use Rattle.problem.specs.Problem.{problem}
+use Rattle.problem.proofs.Theorems.{board-work, found-traced, found-path, found-units, found-exact}
 use Rattle.router.proofs.Routing.{as-found, g-room, ran-none, ran-path}
 use Rattle.router.proofs.search_route.Statement.{statement}
 use Rattle.router.proofs.search_route.Tie as tie

@@ -5,8 +5,8 @@ use denote.Ref.{now}
 use lib.Dec.{leb}
 use Rattle.laws.proofs.Tests.{and-left, and-right}
 use Rattle.table.specs.Lengths.{smallSide, middleSide}
-use Rattle.search.specs.declared.Request.{Request}
-use Rattle.search.specs.Request.{Asked}
+use Rattle.round.specs.declared.Request.{Request}
+use Rattle.round.specs.Request.{Asked}
 use Rattle.search.proofs.inner.find.Statement.{statement}
 use Rattle.search.proofs.inner.find.Tie as tie
 

@@ -7,9 +7,9 @@ use Rattle.board.proofs.Numbers.{number-below}
 use Rattle.open.specs.Groups.{perRow}
 use Rattle.open.proofs.Grouping.{nodes-fit}
 use Rattle.open.proofs.Listing.{blank-made}
-use Rattle.search.specs.Request.{sizeOf}
-use Rattle.search.proofs.Sizes.{vertices-most}
-use Rattle.search.proofs.turns.Finding.{start-sited, cleared-listed, cleared-lower, cleared-begun, begun-begins, found-whole}
+use Rattle.round.specs.Request.{sizeOf}
+use Rattle.problem.proofs.Sizes.{vertices-most}
+use Rattle.search.proofs.Finding.{start-sited, cleared-listed, cleared-lower, cleared-begun, begun-begins, found-whole}
 use Rattle.search.proofs.inner.find_by.Statement.{statement}
 use Rattle.search.proofs.inner.find_by.Tie as tie
 

@@ -1,7 +1,7 @@
 -- `search::inner::find_large` lends the large table, which has the lengths of its board.
 use borrow.Author.Needs.{needs}
 use Rattle.table.proofs.Table.{known-any}
-use Rattle.search.specs.Request.{diagonal}
+use Rattle.round.specs.Request.{diagonal}
 use Rattle.search.proofs.inner.find_large.Statement.{statement}
 use Rattle.search.proofs.inner.find_large.Tie as tie
 

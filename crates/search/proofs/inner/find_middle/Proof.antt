@@ -3,7 +3,7 @@ use native.Mathlib.Nat.{mul-le-mul}
 use native.Mathlib.Omega.{arith}
 use borrow.Author.Needs.{needs}
 use Rattle.table.proofs.Table.{known-less}
-use Rattle.search.specs.Request.{diagonal}
+use Rattle.round.specs.Request.{diagonal}
 use Rattle.search.proofs.inner.find_middle.Statement.{statement}
 use Rattle.search.proofs.inner.find_middle.Tie as tie
 

@@ -8,9 +8,9 @@ use Rattle.board.specs.Limits.{mostVertices}
 use Rattle.board.specs.Board.{numberOf}
 use Rattle.board.proofs.Numbers.{number-below}
 use Rattle.open.proofs.Grouping.{root-room}
-use Rattle.search.specs.Request.{sizeOf}
-use Rattle.search.proofs.Sizes.{vertices-most}
-use Rattle.search.proofs.turns.Finding.{Finding, wholeFrom, finding-start, finding-tests, finding-none, finding-found, finding-room, finding-taking, finding-next}
+use Rattle.round.specs.Request.{sizeOf}
+use Rattle.problem.proofs.Sizes.{vertices-most}
+use Rattle.search.proofs.Finding.{Finding, wholeFrom, finding-start, finding-tests, finding-none, finding-found, finding-room, finding-taking, finding-next}
 use Rattle.search.proofs.turns.run.Statement.{statement}
 use Rattle.search.proofs.turns.run.Tie as tie
 
