@@ -15,7 +15,7 @@ use board::inner::line_before;
 use open::list::open_vertex;
 use sight::inner::sees;
 use sight::inner::sees_neighbour;
-use table::units_between;
+use table::inner::units_between;
 
 // The parent that the neighbour w would get, by one sight test: the taken vertex's parent if it sees w, else u itself.
 fn candidate(cells: &[u8], request: Request, u: Spot, parent: Spot, w: Spot) -> Spot

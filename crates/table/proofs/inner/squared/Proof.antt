@@ -1,10 +1,10 @@
--- `table::squared` multiplies a signed difference by itself.
+-- `table::inner::squared` multiplies a signed difference by itself.
 use mathlib.Core.Path.{ap}
 use lib.IntN.{natAbs}
 use borrow.Author.Needs.{needs}
 use Rattle.table.proofs.Squares.{difference-fits, square-fits, square-is, square-cast}
-use Rattle.table.proofs.squared.Statement.{statement}
-use Rattle.table.proofs.squared.Tie as tie
+use Rattle.table.proofs.inner.squared.Statement.{statement}
+use Rattle.table.proofs.inner.squared.Tie as tie
 
 cast-d : tie.Need-cast-d
 cast-d c = search needs

@@ -1,4 +1,4 @@
--- `table::units_between` sums the differences' squares.
+-- `table::inner::units_between` sums the differences' squares.
 use mathlib.Core.Path.{ap, ap₂, _∙_}
 use Prim.Native.Nat.{ℕ, _+_, _*_, _≤_}
 use native.Mathlib.Omega.{arith}
@@ -6,8 +6,8 @@ use borrow.Author.Needs.{needs}
 use Rattle.board.specs.Limits.{largestSide}
 use Rattle.length.specs.Units.{unitsOf}
 use Rattle.table.proofs.Squares.{square-small}
-use Rattle.table.proofs.units_between.Statement.{statement}
-use Rattle.table.proofs.units_between.Tie as tie
+use Rattle.table.proofs.inner.units_between.Statement.{statement}
+use Rattle.table.proofs.inner.units_between.Tie as tie
 
 squared-requires : tie.Need-squared-requires
 squared-requires c κs = search needs

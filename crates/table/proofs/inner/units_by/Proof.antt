@@ -1,4 +1,4 @@
--- `table::units_by` answers the table's entry; what is beyond the table is worked out.
+-- `table::inner::units_by` answers the table's entry; what is beyond the table is worked out.
 use Prim.Native.Nat.{_*_, _<_}
 use native.Mathlib.Omega.{arith}
 use borrow.Author.Needs.{needs}
@@ -7,8 +7,8 @@ use lib.ListN.{length}
 use Rattle.board.specs.Limits.{largestSide}
 use Rattle.table.specs.Lengths.{squares}
 use Rattle.table.proofs.Table.{has-place, known-small}
-use Rattle.table.proofs.units_by.Statement.{statement}
-use Rattle.table.proofs.units_by.Tie as tie
+use Rattle.table.proofs.inner.units_by.Statement.{statement}
+use Rattle.table.proofs.inner.units_by.Tie as tie
 
 units-of-square-requires : tie.Need-units-of-square-requires
 units-of-square-requires c κs = search needs
