@@ -1,7 +1,6 @@
 -- What the search promises on document 01's board, and what the crate above may rely on. Assumes nothing.
 use mathlib.Core.Path.{_≡_}
 use mathlib.Core.Bool.{true}
-use mathlib.Core.List.{List}
 use Prim.Native.Nat.{ℕ, _^_, _<_}
 use native.Mathlib.Omega.{arith}
 use lib.ListN.{length}
@@ -10,7 +9,7 @@ use Rattle.board.specs.Inner.{Sound, OnBoard}
 use Rattle.reach.specs.Complete.{Complete, PairsTested}
 use Rattle.reach.specs.Turns.{at}
 use Rattle.sight.specs.Neighbours.{visible}
-use Rattle.theta.specs.Search.{search, trail, path}
+use Rattle.theta.specs.Search.{State, search, trail, path}
 use Rattle.theta.specs.Demands.{IsRoute, Work}
 use Rattle.theta.specs.Lent.{Searched}
 use Rattle.theta.specs.Back.{Traced}
@@ -58,26 +57,26 @@ module _ (b : Board) (sx sy gx gy : ℕ) (S : OnBoard b sx sy) where
 
 -- ---- after a call of `find` that found a path
 
-module _ {b : Board} {sx sy : ℕ} (S : OnBoard b sx sy) (gx gy : ℕ) {g parent mark g′ parent′ mark′ : List ℕ} {e t : ℕ}
-    (F : Searched (problem b sx sy gx gy) g parent mark g′ parent′ mark′ true e t) where
+module _ {b : Board} {sx sy : ℕ} (S : OnBoard b sx sy) (gx gy : ℕ) {before after : State}
+    (F : Searched (problem b sx sy gx gy) before after true) where
   -- `count_path` and `write_path` may be called
-  pub found-traced : Traced (length parent′) (number b sx sy) parent′ (number b gx gy)
+  pub found-traced : Traced (length (after .parent)) (number b sx sy) (after .parent) (number b gx gy)
   unfolding problem
   found-traced = lent-traced (board-fair b sx sy gx gy S) (board-legs b sx sy gx gy) F
 
   -- and what they read is the search's path
-  pub found-path : trail (number b sx sy) parent′ (length parent′) (number b gx gy)
+  pub found-path : trail (number b sx sy) (after .parent) (length (after .parent)) (number b gx gy)
       ≡ path (problem b sx sy gx gy) ((search (problem b sx sy gx gy)) .state)
   unfolding problem
   found-path = lent-path (board-fair b sx sy gx gy S) (board-legs b sx sy gx gy) F
 
   -- its units stand at the goal's place
-  pub found-units : at g′ (number b gx gy) ≡ at ((search (problem b sx sy gx gy)) .state .g) (number b gx gy)
+  pub found-units : at (after .g) (number b gx gy) ≡ at ((search (problem b sx sy gx gy)) .state .g) (number b gx gy)
   unfolding problem
   found-units = lent-units (board-fair b sx sy gx gy S) (board-legs b sx sy gx gy) F
 
   -- and an f64 holds them
-  pub found-exact : Sound b → at g′ (number b gx gy) < 2 ^ 53
+  pub found-exact : Sound b → at (after .g) (number b gx gy) < 2 ^ 53
   unfolding problem
   found-exact B = omega (
     arith,

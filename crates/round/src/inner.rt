@@ -7,7 +7,7 @@ ghost use Rattle.sight.specs.Sight.{sees};
 ghost use Rattle.round.specs.Request.{boardOf, asked, sizeOf, diagonal, Asked, Placed};
 ghost use Rattle.table.specs.Lengths.{Known};
 ghost use Rattle.round.specs.Round.{Taken, Beside, ListedFor, Settling, Settled};
-ghost use Rattle.theta.specs.Lent.{Looked, Rounded};
+ghost use Rattle.theta.specs.Lent.{state, Looked, Rounded};
 use crate::Request;
 use crate::Spot;
 use board::Vertex;
@@ -51,10 +51,10 @@ fn settle(
     keys: &mut [u64],
     table: &[u32],
 )
-    requires { ⌜ Settling request w parent own (now g) (now parents) (now marks) ⌝ }
+    requires { ⌜ Settling request w parent own (state (now g) (now parents) (now marks) 0 0) ⌝ }
     requires { ⌜ ListedFor request (now g) (now marks) (now leads) (now keys) ⌝ }
     requires { ⌜ Known (diagonal request) (now table) ⌝ }
-    ensures { λ r. ⌜ Settled request w parent own (now (g .entry)) (now (parents .entry)) (now (marks .entry)) (now (g .exit)) (now (parents .exit)) (now (marks .exit)) (now (leads .exit)) (now (keys .exit)) ⌝ }
+    ensures { λ r. ⌜ Settled request w parent own (state (now (g .entry)) (now (parents .entry)) (now (marks .entry)) 0 0) (state (now (g .exit)) (now (parents .exit)) (now (marks .exit)) 0 0) (now (leads .exit)) (now (keys .exit)) ⌝ }
 {
     let v = w.number;
     open_vertex(
@@ -91,12 +91,12 @@ fn look(
     keys: &mut [u64],
     table: &[u32],
 ) -> u64
-    requires { ⌜ Taken (now cells) request u parent (now g) (now parents) (now marks) ⌝ }
+    requires { ⌜ Taken (now cells) request u parent (state (now g) (now parents) (now marks) 0 tests) ⌝ }
     requires { ⌜ Beside (now cells) request u w ⌝ }
     requires { ⌜ tests < 2 ^ 63 ⌝ }
     requires { ⌜ ListedFor request (now g) (now marks) (now leads) (now keys) ⌝ }
     requires { ⌜ Known (diagonal request) (now table) ⌝ }
-    ensures { λ r. ⌜ Looked (asked (now (cells .entry)) request) (u .number) (w .number) (now (g .entry)) (now (parents .entry)) (now (marks .entry)) tests (now (g .exit)) (now (parents .exit)) (now (marks .exit)) r ⌝ }
+    ensures { λ r. ⌜ Looked (asked (now (cells .entry)) request) (u .number) (w .number) (state (now (g .entry)) (now (parents .entry)) (now (marks .entry)) 0 tests) (state (now (g .exit)) (now (parents .exit)) (now (marks .exit)) 0 r) ⌝ }
     ensures { λ r. ⌜ ListedFor request (now (g .exit)) (now (marks .exit)) (now (leads .exit)) (now (keys .exit)) ⌝ }
 {
     let v = w.number;
@@ -139,11 +139,11 @@ pub fn round(
     keys: &mut [u64],
     table: &[u32],
 ) -> u64
-    requires { ⌜ Taken (now cells) request u parent (now g) (now parents) (now marks) ⌝ }
+    requires { ⌜ Taken (now cells) request u parent (state (now g) (now parents) (now marks) 0 tests) ⌝ }
     requires { ⌜ tests < 2 ^ 62 ⌝ }
     requires { ⌜ ListedFor request (now g) (now marks) (now leads) (now keys) ⌝ }
     requires { ⌜ Known (diagonal request) (now table) ⌝ }
-    ensures { λ r. ⌜ Rounded (asked (now (cells .entry)) request) (u .number) (sizeOf request) (now (g .entry)) (now (parents .entry)) (now (marks .entry)) tests (now (g .exit)) (now (parents .exit)) (now (marks .exit)) r ⌝ }
+    ensures { λ r. ⌜ Rounded (asked (now (cells .entry)) request) (u .number) (sizeOf request) (state (now (g .entry)) (now (parents .entry)) (now (marks .entry)) 0 tests) (state (now (g .exit)) (now (parents .exit)) (now (marks .exit)) 0 r) ⌝ }
     ensures { λ r. ⌜ ListedFor request (now (g .exit)) (now (marks .exit)) (now (leads .exit)) (now (keys .exit)) ⌝ }
 {
     let wide = request.width + 1;

@@ -20,7 +20,7 @@ use Rattle.round.specs.declared.Request.{Request}
 use Rattle.round.specs.declared.Spot.{Spot}
 use Rattle.theta.specs.Search.{State, initial, contestOf, basic, choose}
 use Rattle.theta.specs.Fair.{Fair, FairLegs}
-use Rattle.theta.specs.Lent.{Searched, state, Rounded, Begun, Begins}
+use Rattle.theta.specs.Lent.{state, counting, marked, Searched, Rounded, Begun, Begins}
 use Rattle.problem.specs.Problem.{problem}
 use Rattle.problem.specs.Sizes.{longest}
 use Rattle.round.specs.Request.{boardOf, asked, sizeOf, Asked, Placed}
@@ -35,13 +35,13 @@ use Rattle.problem.proofs.Sizes.{tests-fit}
 use Rattle.problem.proofs.Fair.{board-fair, board-legs}
 
 -- the loop is at this state of the search that gives the whole, and the open list is right: so no key is stale (`turn-no-stale-key`)
-pub record Finding (cells : List ℕ) (q : Request) (whole : Result State) (g parent mark leads keys : List ℕ) (e t : ℕ) : Type 0 where
-  pub going : Going (asked cells q) (longest (q .width) (q .height)) whole (state g parent mark e t)
-  pub listed : ListedFor q g mark leads keys
+pub record Finding (cells : List ℕ) (q : Request) (whole : Result State) (s : State) (leads keys : List ℕ) : Type 0 where
+  pub going : Going (asked cells q) (longest (q .width) (q .height)) whole s
+  pub listed : ListedFor q (s .g) (s .mark) leads keys
 
 -- what the loop's beginning makes of the whole
-abbrev pub wholeFrom : List ℕ → Request → List ℕ → List ℕ → List ℕ → Result State
-wholeFrom cells q g parent mark = turns (basic (asked cells q)) (suc (sizeOf q)) (state g parent mark 0 0)
+abbrev pub wholeFrom : List ℕ → Request → State → Result State
+wholeFrom cells q s = turns (basic (asked cells q)) (suc (sizeOf q)) s
 
 -- a vertex number's place
 placed-number : (cells : List ℕ) (q : Request) (s : Spot) (v : ℕ) → v < sizeOf q
@@ -84,76 +84,84 @@ module _ {cells : List ℕ} {q : Request} (A : Asked cells q) where
 
   -- ---- the beginning
 
-  module _ {start : ℕ} (at-start : start ≡ number (boardOf cells q) (q .sx) (q .sy)) {g parent mark g′ parent′ mark′ : List ℕ}
-      (begun : Begun (sizeOf q) start g parent mark g′ parent′ mark′) where
-    B : Begun (sizeOf q) (number (boardOf cells q) (q .sx) (q .sy)) g parent mark g′ parent′ mark′
+  module _ {start : ℕ} (at-start : start ≡ number (boardOf cells q) (q .sx) (q .sy)) {before after : State}
+      (begun : Begun (sizeOf q) start before after) where
+    B : Begun (sizeOf q) (number (boardOf cells q) (q .sx) (q .sy)) before after
     B = rw at-start at begun
 
-    begun-state : state g′ parent′ mark′ 0 0 ≡ beyond (initial (asked cells q)) (drop (sizeOf q) g) (drop (sizeOf q) parent) (drop (sizeOf q) mark)
-    unfolding problem
-    begun-state = rw (B .g-is, B .parent-is, B .mark-is) (sym (beyond-initial fair (drop (sizeOf q) g) (drop (sizeOf q) parent) (drop (sizeOf q) mark)))
+    -- what lies beyond the vertices
+    abbrev rest : (State → List ℕ) → List ℕ
+    rest part = drop (sizeOf q) (part before)
 
-    pub begun-begins : Begins (asked cells q) (state g′ parent′ mark′ 0 0)
-    begun-begins = rw begun-state (begins-beyond fair (begins-initial fair) (drop (sizeOf q) g) (drop (sizeOf q) parent) (drop (sizeOf q) mark))
+    abbrev longer : State → State
+    longer s = beyond s (rest (λ x. x .g)) (rest (λ x. x .parent)) (rest (λ x. x .mark))
+
+    begun-state : state (after .g) (after .parent) (after .mark) 0 0 ≡ longer (initial (asked cells q))
+    unfolding problem
+    begun-state =
+        rw (B .g-is, B .parent-is, B .mark-is) (sym (beyond-initial fair (rest (λ x. x .g)) (rest (λ x. x .parent)) (rest (λ x. x .mark))))
+
+    pub begun-begins : Begins (asked cells q) (state (after .g) (after .parent) (after .mark) 0 0)
+    begun-begins = rw begun-state (begins-beyond fair (begins-initial fair) (rest (λ x. x .g)) (rest (λ x. x .parent)) (rest (λ x. x .mark)))
 
     -- where the loop ends, so does the search
-    pub found-whole : {found : Bool} {g″ parent″ mark″ : List ℕ} {e t : ℕ}
-        → wholeFrom cells q g′ parent′ mark′ ≡ record { found = found; state = state g″ parent″ mark″ e t }
-        → Searched (asked cells q) g parent mark g″ parent″ mark″ found e t
+    pub found-whole : {found : Bool} {s : State}
+        → wholeFrom cells q (state (after .g) (after .parent) (after .mark) 0 0) ≡ record { found = found; state = s }
+        → Searched (asked cells q) before s found
     unfolding problem
-    found-whole w = searched fair g parent mark (ap (turns (basic (asked cells q)) (suc (sizeOf q))) (sym begun-state) ∙ w)
+    found-whole w = searched fair before (ap (turns (basic (asked cells q)) (suc (sizeOf q))) (sym begun-state) ∙ w)
 
   -- the goal is on the board
   goal-sited : Sited (q .width) (q .height) (q .gx) (q .gy) (q .gx) (q .gy)
   goal-sited = sited (A .goal)
 
   -- no vertex is seen: the open list is empty, and the start can be opened
-  module _ {start : ℕ} (at-start : start ≡ number (boardOf cells q) (q .sx) (q .sy)) {g parent mark g′ parent′ mark′ : List ℕ}
-      (C : Cleared (sizeOf q) start g parent mark g′ parent′ mark′) where
+  module _ {start : ℕ} (at-start : start ≡ number (boardOf cells q) (q .sx) (q .sy)) {before after : State}
+      (C : Cleared (sizeOf q) start before after) where
     pub start-sited : Sited (q .width) (q .height) (q .sx) (q .sy) (q .gx) (q .gy)
     start-sited = sited (A .start)
 
     start-on : start < sizeOf q
     start-on = rw at-start (number-below (q .width) (q .height) (q .sx) (q .sy) (A .start .x-on) (A .start .y-on))
 
-    unseen : (v : ℕ) → v < sizeOf q → at mark′ v ≡ 0
-    unseen v l = rw (C .mark-is) (zeros-then (sizeOf q) mark v l)
+    unseen : (v : ℕ) → v < sizeOf q → at (after .mark) v ≡ 0
+    unseen v l = rw (C .mark-is) (zeros-then (sizeOf q) (before .mark) v l)
 
-    pub cleared-listed : {leads keys : List ℕ} → Blank (q .width) (q .height) leads keys → ListedFor q g′ mark′ leads keys
-    cleared-listed B = listed-empty (rw (C .g-is) (zeros-room (sizeOf q) g)) (rw (C .mark-is) (zeros-room (sizeOf q) mark)) unseen B
+    pub cleared-listed : {leads keys : List ℕ} → Blank (q .width) (q .height) leads keys → ListedFor q (after .g) (after .mark) leads keys
+    cleared-listed B =
+        listed-empty (rw (C .g-is) (zeros-room (sizeOf q) (before .g))) (rw (C .mark-is) (zeros-room (sizeOf q) (before .mark))) unseen B
 
-    pub cleared-lower : Lower (q .width) (q .sx) (q .sy) start 0 g′ mark′
+    pub cleared-lower : Lower (q .width) (q .sx) (q .sy) start 0 (after .g) (after .mark)
     cleared-lower = record { is = at-start; small = omega arith; less = λ o. absurd (omega (arith, unseen start start-on)) }
 
     -- and then the search has begun
-    pub cleared-begun : {g″ mark″ leads keys : List ℕ} → Opens (q .width) (q .height) (q .gx) (q .gy) start 0 g′ mark′ g″ mark″ leads keys
-        → Begun (sizeOf q) start g parent mark g″ parent′ mark″
+    pub cleared-begun : {g mark leads keys : List ℕ} → Opens (q .width) (q .height) (q .gx) (q .gy) start 0 (after .g) (after .mark) g mark leads keys
+        → Begun (sizeOf q) start before (state g (after .parent) mark 0 0)
     cleared-begun O = record {
-      g-is = O .g-is ∙ ap (λ (l : List ℕ). set l start 0) (C .g-is) ∙ set-zero (sizeOf q) g start start-on;
+      g-is = O .g-is ∙ ap (λ (l : List ℕ). set l start 0) (C .g-is) ∙ set-zero (sizeOf q) (before .g) start start-on;
       parent-is = C .parent-is;
       mark-is = O .mark-is ∙ ap (λ (l : List ℕ). set l start 1) (C .mark-is);
     }
 
   -- ---- a turn
 
-  pub finding-start : {g parent mark leads keys : List ℕ} → Begins (asked cells q) (state g parent mark 0 0)
-      → ListedFor q g mark leads keys → Finding cells q (wholeFrom cells q g parent mark) g parent mark leads keys 0 0
+  pub finding-start : {s : State} {leads keys : List ℕ} → Begins (asked cells q) s → ListedFor q (s .g) (s .mark) leads keys
+      → Finding cells q (wholeFrom cells q s) s leads keys
   unfolding problem
   finding-start B D = record { going = going-start fair B; listed = D }
 
-  module _ {whole : Result State} {g parent mark leads keys : List ℕ} {e t : ℕ}
-      (W : Finding cells q whole g parent mark leads keys e t) where
-    pub finding-tests : t < 2 ^ 62
+  module _ {whole : Result State} {s : State} {leads keys : List ℕ} (W : Finding cells q whole s leads keys) where
+    pub finding-tests : s .tests < 2 ^ 62
     unfolding problem
     finding-tests = omega (arith, tests-bound fair (W .going .kept), tests-fit (q .width) (q .height) (A .sound .narrow) (A .sound .low))
 
     -- no stale key: at every turn, where a node has a leader, its key is that vertex's f as it is now
     pub turn-no-stale-key : (i : ℕ) → 0 < i → i < nodesOf (q .width) (q .height) → at keys i ≢ noKey
-        → at keys i ≡ at g (at leads i) + toGoal (q .width) (q .gx) (q .gy) (at leads i)
+        → at keys i ≡ at (s .g) (at leads i) + toGoal (q .width) (q .gx) (q .gy) (at leads i)
     turn-no-stale-key = no-stale-key (W .listed)
 
     -- the contest of the search is the board's
-    same-contest : boardContest (q .width) (q .height) (q .gx) (q .gy) g mark ≡ contestOf (asked cells q) (state g parent mark e t)
+    same-contest : boardContest (q .width) (q .height) (q .gx) (q .gy) (s .g) (s .mark) ≡ contestOf (asked cells q) s
     unfolding problem
     same-contest = rw (column-number (q .width) (q .gx) (q .gy) (A .goal .x-on), row-number (q .width) (q .gx) (q .gy) (A .goal .x-on)) refl
 
@@ -162,55 +170,54 @@ module _ {cells : List ℕ} {q : Request} (A : Asked cells q) where
       abbrev n : ℕ
       n = (asked cells q) .size
 
-      picked : f ≢ noKey → v ≡ least (contestOf (asked cells q) (state g parent mark e t)) n
+      picked : f ≢ noKey → v ≡ least (contestOf (asked cells q) s) n
       unfolding problem
       picked d = v-is ∙ listed-least goal-sited (W .listed) (λ z. d (f-is ∙ z)) ∙ ap (λ (C : Contest). least C (sizeOf q)) same-contest
 
       board : f ≢ noKey → v ≢ n
       unfolding problem
-      board d e = omega (arith, listed-on goal-sited (W .listed) (λ z. d (f-is ∙ z)))
+      board d z′ = omega (arith, listed-on goal-sited (W .listed) (λ z. d (f-is ∙ z)))
 
-      pub finding-none : f ≡ noKey → whole ≡ record { found = false; state = state g parent mark e t }
+      pub finding-none : f ≡ noKey → whole ≡ record { found = false; state = s }
       unfolding problem
       finding-none z =
           let l = listed-none goal-sited (W .listed) (sym f-is ∙ z) in
           going-nothing fair (W .going)
-          (chosen-nothing (asked cells q) (state g parent mark e t) n (sym l ∙ ap (λ (C : Contest). least C (sizeOf q)) same-contest) refl)
+          (chosen-nothing (asked cells q) s n (sym l ∙ ap (λ (C : Contest). least C (sizeOf q)) same-contest) refl)
 
-      pub finding-found : f ≢ noKey → v ≡ number (boardOf cells q) (q .gx) (q .gy) → whole ≡ record { found = true; state = state g parent mark e t }
+      pub finding-found : f ≢ noKey → v ≡ number (boardOf cells q) (q .gx) (q .gy) → whole ≡ record { found = true; state = s }
       unfolding problem
-      finding-found d z = going-arrived fair (W .going) (chosen-arrived (asked cells q) (state g parent mark e t) v (picked d) (board d) z)
+      finding-found d z = going-arrived fair (W .going) (chosen-arrived (asked cells q) s v (picked d) (board d) z)
 
       -- v is taken
       module _ (d : f ≢ noKey) (other : v ≢ number (boardOf cells q) (q .gx) (q .gy)) where
-        chosen : choose (asked cells q) (state g parent mark e t) ≡ vertex v
+        chosen : choose (asked cells q) s ≡ vertex v
         unfolding problem
-        chosen = chosen-vertex (asked cells q) (state g parent mark e t) v (picked d) (board d) other
+        chosen = chosen-vertex (asked cells q) s v (picked d) (board d) other
 
         -- it is one of the vertices that were not expanded
-        pub finding-room : e < sizeOf q
+        pub finding-room : s .expansions < sizeOf q
         unfolding problem
         finding-room = going-room fair (W .going) v chosen
 
-        pub finding-taking : Taking cells q v g parent mark
+        pub finding-taking : Taking cells q v (counting 0 s)
         unfolding problem
         finding-taking = record { ready = going-ready fair legs (W .going) v chosen }
 
         -- it has been expanded
-        pub finding-next : {g′ parent′ mark′ leads′ keys′ : List ℕ} {t′ : ℕ}
-            → Rounded (asked cells q) v (sizeOf q) g parent (set mark v 2) t g′ parent′ mark′ t′
-            → ListedFor q g′ mark′ leads′ keys′ → Finding cells q whole g′ parent′ mark′ leads′ keys′ (e + 1) t′
+        pub finding-next : {r : State} {leads′ keys′ : List ℕ} → Rounded (asked cells q) v (sizeOf q) (marked v (counting 0 s)) r
+            → ListedFor q (r .g) (r .mark) leads′ keys′ → Finding cells q whole (counting (s .expansions + 1) r) leads′ keys′
         unfolding problem
         finding-next R D = record { going = going-round fair legs (W .going) v chosen R; listed = D }
 
 -- ---- a vertex is expanded
 
-pub taking-on : {cells : List ℕ} {q : Request} {v : ℕ} {g parent mark : List ℕ} → Taking cells q v g parent mark
-    → (v < sizeOf q) × (at parent v < sizeOf q) × (sizeOf q ≤ length parent) × (v < length mark)
+pub taking-on : {cells : List ℕ} {q : Request} {v : ℕ} {s : State} → Taking cells q v s
+    → (v < sizeOf q) × (at (s .parent) v < sizeOf q) × (sizeOf q ≤ length (s .parent)) × (v < length (s .mark))
 unfolding problem
 taking-on T = (T .ready .on, T .ready .on-parent, T .ready .room-p, omega (arith, T .ready .on, rw length-set at (T .ready .room-m)))
 
-module _ {cells : List ℕ} {q : Request} (A : Asked cells q) {v : ℕ} {g parent mark : List ℕ} (T : Taking cells q v g parent mark) {u : Spot}
+module _ {cells : List ℕ} {q : Request} (A : Asked cells q) {v : ℕ} {s : State} (T : Taking cells q v s) {u : Spot}
     (U : (u .x ≡ columnOf (q .width) v) × (u .y ≡ rowOf (q .width) v) × (u .number ≡ v)) where
   placed : Placed (boardOf cells q) u
   placed = placed-number cells q u v (taking-on T .0) U
@@ -222,12 +229,12 @@ module _ {cells : List ℕ} {q : Request} (A : Asked cells q) {v : ℕ} {g paren
   taking-number = sym (U .2) ∙ placed .numbered
 
   pub taking-taken : {from : Spot}
-      → (from .x ≡ columnOf (q .width) (at parent v)) × (from .y ≡ rowOf (q .width) (at parent v)) × (from .number ≡ at parent v)
-      → Taken cells q u from g parent (set mark v 2)
+      → (from .x ≡ columnOf (q .width) (at (s .parent) v)) × (from .y ≡ rowOf (q .width) (at (s .parent) v)) × (from .number ≡ at (s .parent) v)
+      → Taken cells q u from (marked v s)
   taking-taken {from} E = record {
     asked-for = A;
     placed = placed;
-    placed-parent = placed-number cells q from (at parent v) (taking-on T .1) E;
+    placed-parent = placed-number cells q from (at (s .parent) v) (taking-on T .1) E;
     parent-is = rw (U .2) (sym (E .2));
     ready = rw (U .2) (T .ready);
   }

@@ -4,7 +4,7 @@ ghost use lib.ListN.{length};
 ghost use Rattle.board.specs.Board.{board, vertices};
 ghost use Rattle.board.specs.Inner.{Sound, OnBoard};
 ghost use Rattle.table.specs.Lengths.{smallSide, middleSide, Known};
-ghost use Rattle.theta.specs.Lent.{Searched};
+ghost use Rattle.theta.specs.Lent.{state, Searched};
 ghost use Rattle.problem.specs.Problem.{problem};
 ghost use Rattle.round.specs.Request.{asked, sizeOf, diagonal, Asked};
 use crate::Outcome;
@@ -40,7 +40,7 @@ fn find_by(
     requires { ⌜ Asked (now cells) request ⌝ }
     requires { ⌜ (sizeOf request ≤ length (now g)) × (sizeOf request ≤ length (now parents)) × (sizeOf request ≤ length (now marks)) ⌝ }
     requires { ⌜ Known (diagonal request) (now table) ⌝ }
-    ensures { λ r. ⌜ Searched (asked (now (cells .entry)) request) (now (g .entry)) (now (parents .entry)) (now (marks .entry)) (now (g .exit)) (now (parents .exit)) (now (marks .exit)) (r .found) (r .expansions) (r .tests) ⌝ }
+    ensures { λ r. ⌜ Searched (asked (now (cells .entry)) request) (state (now (g .entry)) (now (parents .entry)) (now (marks .entry)) 0 0) (state (now (g .exit)) (now (parents .exit)) (now (marks .exit)) (r .expansions) (r .tests)) (r .found) ⌝ }
 {
     let mut leads = [0 as Vertex; NODES];
     let mut keys = [NO_KEY; NODES];
@@ -90,7 +90,7 @@ fn find_small(
     requires { ⌜ Asked (now cells) request ⌝ }
     requires { ⌜ (sizeOf request ≤ length (now g)) × (sizeOf request ≤ length (now parents)) × (sizeOf request ≤ length (now marks)) ⌝ }
     requires { ⌜ (request .width ≤ smallSide) × (request .height ≤ smallSide) ⌝ }
-    ensures { λ r. ⌜ Searched (asked (now (cells .entry)) request) (now (g .entry)) (now (parents .entry)) (now (marks .entry)) (now (g .exit)) (now (parents .exit)) (now (marks .exit)) (r .found) (r .expansions) (r .tests) ⌝ }
+    ensures { λ r. ⌜ Searched (asked (now (cells .entry)) request) (state (now (g .entry)) (now (parents .entry)) (now (marks .entry)) 0 0) (state (now (g .exit)) (now (parents .exit)) (now (marks .exit)) (r .expansions) (r .tests)) (r .found) ⌝ }
 {
     let table = small_lengths();
     find_by(cells, request, g, parents, marks, &table)
@@ -106,7 +106,7 @@ fn find_middle(
     requires { ⌜ Asked (now cells) request ⌝ }
     requires { ⌜ (sizeOf request ≤ length (now g)) × (sizeOf request ≤ length (now parents)) × (sizeOf request ≤ length (now marks)) ⌝ }
     requires { ⌜ (request .width ≤ middleSide) × (request .height ≤ middleSide) ⌝ }
-    ensures { λ r. ⌜ Searched (asked (now (cells .entry)) request) (now (g .entry)) (now (parents .entry)) (now (marks .entry)) (now (g .exit)) (now (parents .exit)) (now (marks .exit)) (r .found) (r .expansions) (r .tests) ⌝ }
+    ensures { λ r. ⌜ Searched (asked (now (cells .entry)) request) (state (now (g .entry)) (now (parents .entry)) (now (marks .entry)) 0 0) (state (now (g .exit)) (now (parents .exit)) (now (marks .exit)) (r .expansions) (r .tests)) (r .found) ⌝ }
 {
     let table = middle_lengths();
     find_by(cells, request, g, parents, marks, &table)
@@ -121,7 +121,7 @@ fn find_large(
 ) -> Outcome
     requires { ⌜ Asked (now cells) request ⌝ }
     requires { ⌜ (sizeOf request ≤ length (now g)) × (sizeOf request ≤ length (now parents)) × (sizeOf request ≤ length (now marks)) ⌝ }
-    ensures { λ r. ⌜ Searched (asked (now (cells .entry)) request) (now (g .entry)) (now (parents .entry)) (now (marks .entry)) (now (g .exit)) (now (parents .exit)) (now (marks .exit)) (r .found) (r .expansions) (r .tests) ⌝ }
+    ensures { λ r. ⌜ Searched (asked (now (cells .entry)) request) (state (now (g .entry)) (now (parents .entry)) (now (marks .entry)) 0 0) (state (now (g .exit)) (now (parents .exit)) (now (marks .exit)) (r .expansions) (r .tests)) (r .found) ⌝ }
 {
     let table = large_lengths();
     find_by(cells, request, g, parents, marks, &table)
@@ -143,7 +143,7 @@ pub fn find(
     requires { ⌜ Sound (board (now cells) width height) ⌝ }
     requires { ⌜ OnBoard (board (now cells) width height) sx sy × OnBoard (board (now cells) width height) gx gy ⌝ }
     requires { ⌜ (vertices (board (now cells) width height) ≤ length (now g)) × (vertices (board (now cells) width height) ≤ length (now parents)) × (vertices (board (now cells) width height) ≤ length (now marks)) ⌝ }
-    ensures { λ r. ⌜ Searched (problem (board (now (cells .entry)) width height) sx sy gx gy) (now (g .entry)) (now (parents .entry)) (now (marks .entry)) (now (g .exit)) (now (parents .exit)) (now (marks .exit)) (r .found) (r .expansions) (r .tests) ⌝ }
+    ensures { λ r. ⌜ Searched (problem (board (now (cells .entry)) width height) sx sy gx gy) (state (now (g .entry)) (now (parents .entry)) (now (marks .entry)) 0 0) (state (now (g .exit)) (now (parents .exit)) (now (marks .exit)) (r .expansions) (r .tests)) (r .found) ⌝ }
 {
     let request = Request {
         width,

@@ -17,6 +17,9 @@ abbrev μ-loop : tie.MeasureT-loop
 loop-holds : tie.Need-loop-holds Inv-loop μ-loop
 loop-holds c = (reading-start (c .pre), omega (arith, reading-start (c .pre) .fits))
 
+returns : tie.Need-returns Inv-loop μ-loop
+returns c = reading-end (c .before .before .pre) (c .loop-test .left) (c .before .loop .inv .0)
+
 -- one step back
 step : (k : tie.In-loop Inv-loop μ-loop) → let a = k .before .before .args in
     let l = k .before .loop in
@@ -41,9 +44,6 @@ loop-less c = omega (arith, step (c .before) .2)
 
 loop-again : tie.Need-loop-again Inv-loop μ-loop
 loop-again c = (step (c .before) .0, omega (arith, step (c .before) .2))
-
-returns : tie.Need-returns Inv-loop μ-loop
-returns c = reading-end (c .before .before .pre) (c .loop-test .left) (c .before .loop .inv .0)
 
 pub count-path-spec : {M : Type 1} → statement M
 count-path-spec =

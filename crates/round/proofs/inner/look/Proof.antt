@@ -1,7 +1,7 @@
 -- `round::inner::look` does what the definition does for one vertex, and keeps the arrays right.
 use mathlib.Core.Path.{_≡_, ap, _∙_}
-use mathlib.Core.Logic.{⊎-elim, _≢_}
-use mathlib.Core.Bool.{cond}
+use mathlib.Core.Logic.{inl, inr, _≢_}
+use mathlib.Core.Bool.{true, false, cond}
 use Prim.Native.Nat.{ℕ, _+_, _^_, _≤_, _<_}
 use native.Mathlib.Omega.{arith}
 use borrow.Author.Needs.{needs}
@@ -12,11 +12,12 @@ use Rattle.board.specs.Limits.{mostVertices}
 use Rattle.sight.specs.Sight.{sees}
 use Rattle.table.proofs.Table.{known-leg}
 use Rattle.reach.specs.Turns.{at}
-use Rattle.theta.specs.Search.{Problem}
+use Rattle.theta.specs.Search.{Problem, State}
+use Rattle.theta.specs.Lent.{state}
 use Rattle.problem.specs.Problem.{problem}
 use Rattle.problem.specs.Sizes.{largest}
 use Rattle.round.specs.Request.{boardOf, asked, sizeOf, Placed}
-use Rattle.theta.proofs.Rounds.{look-far, look-done, look-won, look-lost, fell, ready-candidate}
+use Rattle.theta.proofs.Rounds.{look-far, look-done, look-due, fell, ready-candidate}
 use Rattle.problem.proofs.Sizes.{vertices-most, largest-fits, leg-longest}
 use Rattle.round.proofs.Places.{placed-below, placed-cond, len-said, candidate-number, beside-neighbours, near-said}
 use Rattle.round.proofs.inner.look.Statement.{statement}
@@ -25,6 +26,10 @@ use Rattle.round.proofs.inner.look.Tie as tie
 -- the problem that is asked
 abbrev asking : tie.Start → Problem
 asking s = asked (now (s .args .cells)) (s .args .request)
+
+-- what the slices hold
+abbrev lent : tie.Start → State
+lent s = let a = s .args in state (now (a .g)) (now (a .parents)) (now (a .marks)) 0 (a .tests)
 
 few : (s : tie.Start) → sizeOf (s .args .request) ≤ mostVertices
 few s = vertices-most (s .args .request .width) (s .args .request .height) (s .pre .0 .asked-for .sound .narrow) (s .pre .0 .asked-for .sound .low)
@@ -36,18 +41,18 @@ slice-read-mark : tie.Need-slice-read-mark
 unfolding problem
 slice-read-mark c = let s = c .before .before .before .before .before .before .before .before in omega (arith, on s, s .pre .0 .ready .room-m)
 
-returns : tie.Need-returns
-returns c =
-    let s = c .before .before .before .before .before .before .before .before .before in
-    let a = s .args in
-    (look-done (asking s) (a .u .number) (a .w .number) (now (a .g)) (now (a .parents)) (now (a .marks)) (a .tests) (c .if1 .taken), s .pre .1 .1 .1 .0)
-
 abbrev start : tie.Else1 → tie.Start
 start k = k .before .before .before .before .before .before .before .before .before
 
 -- the vertex is not the taken one, which is expanded
 apart : (k : tie.Else1) → start k .args .w .number ≢ start k .args .u .number
 apart k e = k .if1 .left (rw e (start k .pre .0 .ready .done))
+
+returns : tie.Need-returns
+returns c =
+    let s = c .before .before .before .before .before .before .before .before .before in
+    let a = s .args in
+    (look-done (asking s) (a .u .number) (a .w .number) (lent s) (c .if1 .taken), s .pre .1 .1 .1 .0)
 
 sees-neighbour-requires : tie.Need-sees-neighbour-requires
 sees-neighbour-requires c κs =
@@ -64,7 +69,7 @@ returns-2 c =
     let a = s .args in
     let n = c .before .sees-neighbour in
     let far = near-said (s .pre .0 .placed) (s .pre .1 .0) (apart k) (n .ensures) (not-true (n .result) (c .if2 .taken)) in
-    (look-far (asking s) (a .u .number) (a .w .number) (now (a .g)) (now (a .parents)) (now (a .marks)) (a .tests) far, s .pre .1 .1 .1 .0)
+    (look-far (asking s) (a .u .number) (a .w .number) (lent s) far, s .pre .1 .1 .1 .0)
 
 candidate-requires : tie.Need-candidate-requires
 candidate-requires c κs = search needs
@@ -106,11 +111,16 @@ units-between-requires c κs =
     let s = start (k .before .before .before) in
     let F = from-placed k .on in
     let W = s .pre .1 .0 .placed .on in
-    (omega (arith, F, W, s .pre .0 .asked-for .sound), known-leg (s .pre .1 .1 .1 .1) (F .x-on) (F .y-on) (W .x-on) (W .y-on))
+    let B = s .pre .0 .asked-for .sound in
+    known-leg (s .pre .1 .1 .1 .1) (B .narrow, B .low) (F .x-on, F .y-on, W .x-on, W .y-on)
 
 -- the candidate g
-own-small : (j : tie.After-units-between) → let k = j .before .before in
-    at (now (start (k .before .before .before) .args .g)) (k .candidate .result .number) + j .units-between .result < 2 ^ 63
+abbrev candidate-g : tie.After-units-between → ℕ
+candidate-g j =
+    let k = j .before .before in
+    at (now (start (k .before .before .before) .args .g)) (k .candidate .result .number) + j .units-between .result
+
+own-small : (j : tie.After-units-between) → candidate-g j < 2 ^ 63
 own-small j =
     let k = j .before .before in
     let s = start (k .before .before .before) in
@@ -158,7 +168,7 @@ settle-requires c κs =
         lower = record {
           is = P .numbered;
           small = own-small j;
-          less = λ o. fell (at (now (a .marks)) (a .w .number)) _ (at (now (a .g)) (a .w .number)) (t .if3 .taken) o;
+          less = λ o. fell (at (now (a .marks)) (a .w .number)) (candidate-g j) (at (now (a .g)) (a .w .number)) (t .if3 .taken) o;
         };
         on-parent = from-on k .0;
         room-p = s .pre .0 .ready .room-p;
@@ -170,19 +180,19 @@ add-result : tie.Need-add-result
 add-result c = search needs
 
 same-length : tie.Need-same-length
-same-length c = ⊎-elim (λ w. ap length (w .17 ∙ w .6 .ensures .g-is) ∙ simp length-set) (λ w. ap length (w .1)) (c .if3 .came)
+same-length c = elim (c .if3 .came) [ inl w ↦ ap length (w .17 ∙ w .6 .ensures .g-is) ∙ simp length-set | inr w ↦ ap length (w .1) ]
 
 same-length-2 : tie.Need-same-length-2
-same-length-2 c = ⊎-elim (λ w. ap length (w .18 ∙ w .6 .ensures .parent-is) ∙ simp length-set) (λ w. ap length (w .2)) (c .if3 .came)
+same-length-2 c = elim (c .if3 .came) [ inl w ↦ ap length (w .18 ∙ w .6 .ensures .parent-is) ∙ simp length-set | inr w ↦ ap length (w .2) ]
 
 same-length-3 : tie.Need-same-length-3
-same-length-3 c = ⊎-elim (λ w. ap length (w .19 ∙ w .6 .ensures .mark-is) ∙ simp length-set) (λ w. ap length (w .3)) (c .if3 .came)
+same-length-3 c = elim (c .if3 .came) [ inl w ↦ ap length (w .19 ∙ w .6 .ensures .mark-is) ∙ simp length-set | inr w ↦ ap length (w .3) ]
 
 same-length-4 : tie.Need-same-length-4
-same-length-4 c = ⊎-elim (λ w. ap length (w .20) ∙ w .6 .kept .1 .1 .1 .1 .1 .1 .1 .0) (λ w. ap length (w .4)) (c .if3 .came)
+same-length-4 c = elim (c .if3 .came) [ inl w ↦ ap length (w .20) ∙ w .6 .kept .1 .1 .1 .1 .1 .1 .1 .0 | inr w ↦ ap length (w .4) ]
 
 same-length-5 : tie.Need-same-length-5
-same-length-5 c = ⊎-elim (λ w. ap length (w .21) ∙ w .6 .kept .1 .1 .1 .1 .1 .1 .1 .1 .0) (λ w. ap length (w .5)) (c .if3 .came)
+same-length-5 c = elim (c .if3 .came) [ inl w ↦ ap length (w .21) ∙ w .6 .kept .1 .1 .1 .1 .1 .1 .1 .1 .0 | inr w ↦ ap length (w .5) ]
 
 returns-3 : tie.Need-returns-3
 unfolding problem
@@ -195,22 +205,13 @@ returns-3 c =
     let a = s .args in
     let P = s .pre .1 .0 in
     let near = near-said (s .pre .0 .placed) P (apart e) (f .sees-neighbour .ensures) (not-false (f .sees-neighbour .result) (k .before .if2 .left)) in
-    let g = now (a .g) in
-    let m = now (a .marks) in
-    let own = len-said (now (a .cells)) (a .request) (from-placed k) (P .placed) (at g (k .candidate .result .number)) (j .units-between .ensures) in
-    ⊎-elim
-    (λ w.
-    let S = w .6 .ensures in (
-      rw (w .17, w .18, w .19, S .g-is, S .parent-is, S .mark-is)
-          (look-won (asking s) (a .u .number) (a .w .number) g (now (a .parents)) m (a .tests) near (e .if1 .left) (k .candidate .result .number) _ (from-is k) own (w .0 .taken)),
-      rw (w .17, w .19, w .20, w .21) (S .listed),
-    ))
-    (λ w. (
-      rw (w .1, w .2, w .3)
-          (look-lost (asking s) (a .u .number) (a .w .number) g (now (a .parents)) m (a .tests) near (e .if1 .left) (k .candidate .result .number) _ (from-is k) own (w .0 .left)),
-      rw (w .1, w .3, w .4, w .5) (s .pre .1 .1 .1 .0),
-    ))
-    (c .if3 .came)
+    let own = len-said (now (a .cells)) (a .request) (from-placed k) (P .placed) (at (now (a .g)) (k .candidate .result .number)) (j .units-between .ensures) in
+    let looked = look-due (asking s) (a .u .number) (a .w .number) (lent s) near (e .if1 .left) (k .candidate .result .number) (candidate-g j) (from-is k) own in
+    elim (c .if3 .came) [
+      | inl w ↦ let S = w .6 .ensures in
+          (rw (w .17, w .18, w .19, S .g-is, S .parent-is, S .mark-is) (looked true (w .0 .taken)), rw (w .17, w .19, w .20, w .21) (S .listed))
+      | inr w ↦ (rw (w .1, w .2, w .3) (looked false (w .0 .left)), rw (w .1, w .3, w .4, w .5) (s .pre .1 .1 .1 .0))
+    ]
 
 pub look-spec : {M : Type 1} → statement M
 look-spec =

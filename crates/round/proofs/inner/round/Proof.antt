@@ -5,6 +5,8 @@ use native.Mathlib.Omega.{arith}
 use denote.Ref.{now}
 use lib.ListN.{length}
 use Rattle.board.specs.Limits.{mostVertices}
+use Rattle.theta.specs.Search.{State}
+use Rattle.theta.specs.Lent.{state}
 use Rattle.round.specs.Request.{sizeOf}
 use Rattle.problem.proofs.Sizes.{vertices-most}
 use Rattle.round.proofs.inner.Passed.{Passed, Onward, below-size, passed-top, passed-left, passed-right, passed-bottom, passed-more, passed-taken, passed-tests, passed-sizes}
@@ -13,7 +15,7 @@ use Rattle.round.proofs.inner.round.Tie as tie
 
 abbrev Inv-loop2 : tie.InvT-loop2
 Inv-loop2 cells request u parent tests g₀ parents₀ marks₀ leads₀ keys₀ table wide left right bottom t₀ y row x₀ g parents marks leads keys t x = (u .x - 1 ≤ x) × (x ≤ right)
-    × Onward cells request u (row + x₀) g₀ parents₀ marks₀ leads₀ keys₀ t₀ (row + x) g parents marks leads keys t
+    × Onward cells request u (row + x₀) (state g₀ parents₀ marks₀ 0 t₀) leads₀ keys₀ (row + x) (state g parents marks 0 t) leads keys
     × (length leads ≡ length leads₀) × (length keys ≡ length keys₀)
 
 abbrev μ-loop2 : tie.MeasureT-loop2
@@ -21,7 +23,7 @@ abbrev μ-loop2 : tie.MeasureT-loop2
 
 abbrev Inv-loop : tie.InvT-loop
 Inv-loop cells request u parent tests g₀ parents₀ marks₀ leads₀ keys₀ table wide left right bottom t₀ y₀ g parents marks leads keys t y = (u .y - 1 ≤ y) × (y ≤ bottom)
-    × Passed cells request u g₀ parents₀ marks₀ tests (y * wide) g parents marks leads keys t
+    × Passed cells request u (state g₀ parents₀ marks₀ 0 tests) (y * wide) (state g parents marks 0 t) leads keys
     × (length leads ≡ length leads₀) × (length keys ≡ length keys₀)
 
 abbrev μ-loop : tie.MeasureT-loop
@@ -58,6 +60,10 @@ start l = l .before .before .before .before .before .before .before .before .bef
 few : (s : tie.Start Inv-loop2 μ-loop2 Inv-loop μ-loop) → sizeOf (s .args .request) ≤ mostVertices
 few s = vertices-most (s .args .request .width) (s .args .request .height) (s .pre .0 .asked-for .sound .narrow) (s .pre .0 .asked-for .sound .low)
 
+-- what the slices held when the round began
+abbrev began : tie.Start Inv-loop2 μ-loop2 Inv-loop μ-loop → State
+began s = let a = s .args in state (now (a .g)) (now (a .parents)) (now (a .marks)) 0 (a .tests)
+
 -- the bounds of the round
 left-is : (l : tie.At-loop Inv-loop2 μ-loop2 Inv-loop μ-loop) → l .before .before .before .before .line-before .result ≡ start l .args .u .x - 1
 left-is l = l .before .before .before .before .line-before .ensures
@@ -85,7 +91,7 @@ loop2-holds c =
     let s = start l in (
       omega (arith, left-is l),
       omega (arith, left-is l, right-is l, s .pre .0 .placed .on .x-on),
-      record { is = λ g parent mark t P. P },
+      record { is = λ before P. P },
       refl,
       refl,
     )
@@ -102,14 +108,12 @@ spot-on k = omega (arith, column-on k, row-on (k .before .before))
 here : (c : tie.At-loop2 Inv-loop2 μ-loop2 Inv-loop μ-loop) → let l = c .loop2 in
     let o = c .before .before in
     let a = start o .args in
-    Passed (now (a .cells)) (a .request) (a .u) (now (a .g)) (now (a .parents)) (now (a .marks)) (a .tests) (o .loop .y * (a .request .width + 1) + l .x)
-    (l .g) (l .parents) (l .marks) (l .leads) (l .keys) (l .t)
+    Passed (now (a .cells)) (a .request) (a .u) (began (start o)) (o .loop .y * (a .request .width + 1) + l .x)
+    (state (l .g) (l .parents) (l .marks) 0 (l .t)) (l .leads) (l .keys)
 here c =
     let o = c .before .before in
     let s = start o in
-    let a = s .args in
-    c .loop2 .inv .2 .is (now (a .g)) (now (a .parents)) (now (a .marks)) (a .tests)
-    (passed-left (s .pre .0) (o .loop .inv .2) (o .loop .y) _ (left-is o) refl)
+    c .loop2 .inv .2 .is (began s) (passed-left (s .pre .0) (o .loop .inv .2) (o .loop .y) _ (left-is o) refl)
 
 add-t23 : tie.Need-add-t23 Inv-loop2 μ-loop2 Inv-loop μ-loop
 add-t23 c = omega (arith, spot-on c, few (start (c .before .before .before)))
@@ -152,7 +156,7 @@ loop2-again c =
     let e : y * (s .args .request .width + 1) + (l .x + 1) ≡ y * (s .args .request .width + 1) + l .x + 1 = omega arith in (
       omega arith,
       omega (arith, k .loop2-test .taken),
-      record { is = λ g parent mark t P. rw e (passed-more (l .inv .2 .is g parent mark t P) (j .look .ensures .0) (j .look .ensures .1)) },
+      record { is = λ before P. rw e (passed-more (l .inv .2 .is before P) (j .look .ensures .0) (j .look .ensures .1)) },
       _∙_ {b = length (l .leads)} (j .look .kept .1 .1 .1 .1 .1 .1 .1 .1 .1 .0) (l .inv .3),
       _∙_ {b = length (l .keys)} (j .look .kept .1 .1 .1 .1 .1 .1 .1 .1 .1 .1 .0) (l .inv .4),
     )
@@ -179,8 +183,8 @@ loop-again c =
 -- all have been looked at
 all : (c : tie.After-loop Inv-loop2 μ-loop2 Inv-loop μ-loop) → let l = c .before .loop in
     let a = start (c .before) .args in
-    Passed (now (a .cells)) (a .request) (a .u) (now (a .g)) (now (a .parents)) (now (a .marks)) (a .tests) (sizeOf (a .request)) (l .g) (l .parents)
-    (l .marks) (l .leads) (l .keys) (l .t)
+    Passed (now (a .cells)) (a .request) (a .u) (began (start (c .before))) (sizeOf (a .request)) (state (l .g) (l .parents) (l .marks) 0 (l .t))
+    (l .leads) (l .keys)
 all c =
     let s = start (c .before) in
     let l = c .before .loop in

@@ -29,7 +29,7 @@ abbrev start : tie.After-open-vertex → tie.Start
 start o = o .before .before .before .before .before .before .before .before .before .before .before
 
 cast-parents : tie.Need-cast-parents
-cast-parents c = let s = start (c .before .before .before .before .before .before .before .before) in omega (arith, s .pre .0 .on-parent, few s, vertices-fit)
+cast-parents c = let s = start (c .before .before .before .before .before .before .before .before) in omega (arith, s .pre .0 .on-parent, on s, few s, vertices-fit)
 
 mul-parents : tie.Need-mul-parents
 mul-parents c = let s = start (c .before .before .before .before .before .before .before .before) in omega (arith, on s, few s)

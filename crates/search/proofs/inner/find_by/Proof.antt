@@ -2,11 +2,14 @@
 use Prim.Native.Nat.{_+_, _*_, _≤_, _<_}
 use native.Mathlib.Omega.{arith}
 use borrow.Author.Needs.{needs}
+use denote.Ref.{now}
 use Rattle.board.specs.Limits.{largestSide, mostVertices}
 use Rattle.board.proofs.Numbers.{number-below}
 use Rattle.open.specs.Groups.{perRow}
 use Rattle.open.proofs.Grouping.{nodes-fit}
 use Rattle.open.proofs.Listing.{blank-made}
+use Rattle.theta.specs.Search.{State}
+use Rattle.theta.specs.Lent.{state, Begun}
 use Rattle.round.specs.Request.{sizeOf}
 use Rattle.problem.proofs.Sizes.{vertices-most}
 use Rattle.search.proofs.Finding.{start-sited, cleared-listed, cleared-lower, cleared-begun, begun-begins, found-whole}
@@ -26,18 +29,6 @@ numbered b = b .before .before .before .before .before .before
 abbrev start : tie.After-number-of → tie.Start
 start n = n .before .before .before .before .before .before
 
-number-of-requires : tie.Need-number-of-requires
-number-of-requires c κs = search needs
-
-add-begin : tie.Need-add-begin
-add-begin c = search needs
-
-add-begin-2 : tie.Need-add-begin-2
-add-begin-2 c = search needs
-
-mul-begin : tie.Need-mul-begin
-mul-begin c = search needs
-
 begin-requires : tie.Need-begin-requires
 begin-requires c κs =
     let n = c .before .before .before .before .before in
@@ -45,15 +36,6 @@ begin-requires c κs =
     let q = s .args .request in
     let A = s .pre .0 in
     (omega (arith, n .number-of .ensures, number-below (q .width) (q .height) (q .sx) (q .sy) (A .start .x-on) (A .start .y-on), few s), s .pre .1 .0)
-
-cast-open-vertex : tie.Need-cast-open-vertex
-cast-open-vertex c = search needs
-
-slice-aggregate-open-vertex : tie.Need-slice-aggregate-open-vertex
-slice-aggregate-open-vertex c = search needs
-
-slice-aggregate-open-vertex-2 : tie.Need-slice-aggregate-open-vertex-2
-slice-aggregate-open-vertex-2 c = search needs
 
 open-vertex-requires : tie.Need-open-vertex-requires
 open-vertex-requires c κs =
@@ -73,58 +55,59 @@ open-vertex-requires c κs =
       ),
     )
 
-slice-aggregate-run : tie.Need-slice-aggregate-run
-slice-aggregate-run c = search needs
+-- what the slices hold: as lent, cleared, and with the start open
+abbrev lent : tie.Start → State
+lent s = state (now (s .args .g)) (now (s .args .parents)) (now (s .args .marks)) 0 0
 
-slice-aggregate-run-2 : tie.Need-slice-aggregate-run-2
-slice-aggregate-run-2 c = search needs
+abbrev emptied : tie.After-begin → State
+emptied b = let l = b .begin .last .1 .1 in state (l .0) (l .1 .0) (l .1 .1 .0) 0 0
+
+abbrev opened : tie.After-open-vertex → State
+opened o = let l = o .open-vertex .last .1 .1 .1 .1 .1 .1 .1 .1 in state (l .0) (emptied (cleared o) .parent) (l .1 .0) 0 0
+
+begun : (o : tie.After-open-vertex) → let n = numbered (cleared o) in
+    Begun (sizeOf (start n .args .request)) (n .number-of .result) (lent (start n)) (opened o)
+begun o =
+    let b = cleared o in
+    let n = numbered b in
+    let s = start n in
+    let l = o .open-vertex .last .1 .1 .1 .1 .1 .1 .1 .1 in
+    cleared-begun (s .pre .0) (n .number-of .ensures) {before = lent s} {after = emptied b} (b .begin .ensures) {g = l .0} {mark = l .1 .0}
+    {leads = l .1 .1 .0} {keys = l .1 .1 .1 .0} (o .open-vertex .ensures)
 
 run-requires : tie.Need-run-requires
 run-requires c κs =
     let o = c .before .before .before .before .before .before .before .before .before .before .before in
-    let b = cleared o in
-    let n = numbered b in
+    let n = numbered (cleared o) in
     let s = start n in
-    let N = n .number-of .ensures in
-    let O = o .open-vertex .ensures in
-    (s .pre .0, (begun-begins (s .pre .0) N (cleared-begun (s .pre .0) N (b .begin .ensures) O), (O .listed, s .pre .1 .1)))
-
-same-length : tie.Need-same-length
-same-length c = search needs
-
-same-length-2 : tie.Need-same-length-2
-same-length-2 c = search needs
-
-same-length-3 : tie.Need-same-length-3
-same-length-3 c = search needs
+    let B = begun-begins (s .pre .0) (n .number-of .ensures) {before = lent s} {after = opened o} (begun o) in
+    (s .pre .0, (B, (o .open-vertex .ensures .listed, s .pre .1 .1)))
 
 returns : tie.Need-returns
 returns c =
     let r = c .before .before .before .before .before .before .before .before in
     let o = r .before .before .before .before .before .before .before .before .before .before .before .before in
-    let b = cleared o in
-    let n = numbered b in
+    let n = numbered (cleared o) in
     let s = start n in
-    let N = n .number-of .ensures in
-    found-whole (s .pre .0) N (cleared-begun (s .pre .0) N (b .begin .ensures) (o .open-vertex .ensures)) (r .run .ensures)
+    found-whole (s .pre .0) (n .number-of .ensures) {before = lent s} {after = opened o} (begun o) (r .run .ensures)
 
 pub find-by-spec : {M : Type 1} → statement M
 find-by-spec =
     tie.close
     (tie.spec
-    number-of-requires
-    add-begin
-    add-begin-2
-    mul-begin
+    (λ c κs. search needs)
+    (λ c. search needs)
+    (λ c. search needs)
+    (λ c. search needs)
     begin-requires
-    cast-open-vertex
-    slice-aggregate-open-vertex
-    slice-aggregate-open-vertex-2
+    (λ c. search needs)
+    (λ c. search needs)
+    (λ c. search needs)
     open-vertex-requires
-    slice-aggregate-run
-    slice-aggregate-run-2
+    (λ c. search needs)
+    (λ c. search needs)
     run-requires
-    same-length
-    same-length-2
-    same-length-3
+    (λ c. search needs)
+    (λ c. search needs)
+    (λ c. search needs)
     returns)
