@@ -111,16 +111,16 @@ module _ {cells : List ℕ} {q : Request} (A : Asked cells q) where
     unfolding problem
     found-whole w = searched fair before (ap (turns (basic (asked cells q)) (suc (sizeOf q))) (sym begun-state) ∙ w)
 
-  -- the goal is on the board
+  -- the start and the goal are on the board
+  pub start-sited : Sited (q .width) (q .height) (q .sx) (q .sy) (q .gx) (q .gy)
+  start-sited = sited (A .start)
+
   goal-sited : Sited (q .width) (q .height) (q .gx) (q .gy) (q .gx) (q .gy)
   goal-sited = sited (A .goal)
 
   -- no vertex is seen: the open list is empty, and the start can be opened
   module _ {start : ℕ} (at-start : start ≡ number (boardOf cells q) (q .sx) (q .sy)) {before after : State}
       (C : Cleared (sizeOf q) start before after) where
-    pub start-sited : Sited (q .width) (q .height) (q .sx) (q .sy) (q .gx) (q .gy)
-    start-sited = sited (A .start)
-
     start-on : start < sizeOf q
     start-on = rw at-start (number-below (q .width) (q .height) (q .sx) (q .sy) (A .start .x-on) (A .start .y-on))
 

@@ -140,23 +140,33 @@ look-requires c κs =
       ),
     )
 
+-- the places on the way: a vertex has been looked at, and before that its turn began; what the slices hold then
+abbrev behind : tie.After-slice-known10 Inv-loop2 μ-loop2 Inv-loop μ-loop → tie.After-look Inv-loop2 μ-loop2 Inv-loop μ-loop
+behind c = c .before .before .before .before .before .before .before .before .before .before
+
+abbrev turn : tie.After-look Inv-loop2 μ-loop2 Inv-loop μ-loop → tie.In-loop2 Inv-loop2 μ-loop2 Inv-loop μ-loop
+turn j = j .before .before .before .before .before .before
+
+abbrev looked : tie.After-look Inv-loop2 μ-loop2 Inv-loop μ-loop → State
+looked j = let l = j .look .last .1 .1 .1 .1 .1 .1 in state (l .0) (l .1 .0) (l .1 .1 .0) 0 (j .look .result)
+
 add-x : tie.Need-add-x Inv-loop2 μ-loop2 Inv-loop μ-loop
-add-x c = let k = c .before .before .before .before .before .before .before .before .before .before .before .before .before .before .before .before in omega (arith, column-on k, start (k .before .before .before) .pre .0 .asked-for .sound .narrow)
+add-x c = let k = turn (behind c) in omega (arith, column-on k, start (k .before .before .before) .pre .0 .asked-for .sound .narrow)
 
 loop2-less : tie.Need-loop2-less Inv-loop2 μ-loop2 Inv-loop μ-loop
-loop2-less c = let k = c .before .before .before .before .before .before .before .before .before .before .before .before .before .before .before .before in omega (arith, k .loop2-test .taken)
+loop2-less c = let k = turn (behind c) in omega (arith, k .loop2-test .taken)
 
 loop2-again : tie.Need-loop2-again Inv-loop2 μ-loop2 Inv-loop μ-loop
 loop2-again c =
-    let j = c .before .before .before .before .before .before .before .before .before .before in
-    let k = c .before .before .before .before .before .before .before .before .before .before .before .before .before .before .before .before in
+    let j = behind c in
+    let k = turn j in
     let l = k .before .loop2 in
     let s = start (k .before .before .before) in
     let y = k .before .before .before .loop .y in
     let e : y * (s .args .request .width + 1) + (l .x + 1) ≡ y * (s .args .request .width + 1) + l .x + 1 = omega arith in (
       omega arith,
       omega (arith, k .loop2-test .taken),
-      record { is = λ before P. rw e (passed-more (l .inv .2 .is before P) (j .look .ensures .0) (j .look .ensures .1)) },
+      record { is = λ before P. rw e (passed-more {s = looked j} (l .inv .2 .is before P) (j .look .ensures .0) (j .look .ensures .1)) },
       _∙_ {b = length (l .leads)} (j .look .kept .1 .1 .1 .1 .1 .1 .1 .1 .1 .0) (l .inv .3),
       _∙_ {b = length (l .keys)} (j .look .kept .1 .1 .1 .1 .1 .1 .1 .1 .1 .1 .0) (l .inv .4),
     )

@@ -37,24 +37,6 @@ begin-requires c κs =
     let A = s .pre .0 in
     (omega (arith, n .number-of .ensures, number-below (q .width) (q .height) (q .sx) (q .sy) (A .start .x-on) (A .start .y-on), few s), s .pre .1 .0)
 
-open-vertex-requires : tie.Need-open-vertex-requires
-open-vertex-requires c κs =
-    let b = c .before .before .before .before .before .before .before .before .before .before in
-    let n = numbered b in
-    let s = start n in
-    let A = s .pre .0 in
-    let N = n .number-of .ensures in
-    let C = b .begin .ensures in (
-      start-sited A N C,
-      (
-        cleared-lower A N C,
-        (
-          cleared-listed A N C (blank-made (2 * (largestSide + 1) * perRow largestSide) (nodes-fit largestSide (A .sound .narrow) (A .sound .low))),
-          s .pre .1 .1,
-        ),
-      ),
-    )
-
 -- what the slices hold: as lent, cleared, and with the start open
 abbrev lent : tie.Start → State
 lent s = state (now (s .args .g)) (now (s .args .parents)) (now (s .args .marks)) 0 0
@@ -64,6 +46,22 @@ emptied b = let l = b .begin .last .1 .1 in state (l .0) (l .1 .0) (l .1 .1 .0) 
 
 abbrev opened : tie.After-open-vertex → State
 opened o = let l = o .open-vertex .last .1 .1 .1 .1 .1 .1 .1 .1 in state (l .0) (emptied (cleared o) .parent) (l .1 .0) 0 0
+
+open-vertex-requires : tie.Need-open-vertex-requires
+open-vertex-requires c κs =
+    let b = c .before .before .before .before .before .before .before .before .before .before in
+    let n = numbered b in
+    let s = start n in
+    let A = s .pre .0 in
+    let N = n .number-of .ensures in
+    let C = b .begin .ensures in
+    let blank = blank-made (2 * (largestSide + 1) * perRow largestSide) (nodes-fit largestSide (A .sound .narrow) (A .sound .low)) in (
+      start-sited A,
+      (
+        cleared-lower A N {before = lent s} {after = emptied b} C,
+        (cleared-listed A N {before = lent s} {after = emptied b} C blank, s .pre .1 .1),
+      ),
+    )
 
 begun : (o : tie.After-open-vertex) → let n = numbered (cleared o) in
     Begun (sizeOf (start n .args .request)) (n .number-of .result) (lent (start n)) (opened o)
@@ -83,13 +81,17 @@ run-requires c κs =
     let B = begun-begins (s .pre .0) (n .number-of .ensures) {before = lent s} {after = opened o} (begun o) in
     (s .pre .0, (B, (o .open-vertex .ensures .listed, s .pre .1 .1)))
 
+-- what they hold when the turns have ended
+abbrev ran : tie.After-run → State
+ran r = let l = r .run .last .1 .1 in state (l .0) (l .1 .0) (l .1 .1 .0) (r .run .result .expansions) (r .run .result .tests)
+
 returns : tie.Need-returns
 returns c =
     let r = c .before .before .before .before .before .before .before .before in
     let o = r .before .before .before .before .before .before .before .before .before .before .before .before in
     let n = numbered (cleared o) in
     let s = start n in
-    found-whole (s .pre .0) (n .number-of .ensures) {before = lent s} {after = opened o} (begun o) (r .run .ensures)
+    found-whole (s .pre .0) (n .number-of .ensures) {before = lent s} {after = opened o} (begun o) {s = ran r} (r .run .ensures)
 
 pub find-by-spec : {M : Type 1} → statement M
 find-by-spec =

@@ -8,6 +8,7 @@ use Rattle.board.specs.Limits.{mostVertices}
 use Rattle.board.specs.Board.{numberOf}
 use Rattle.board.proofs.Numbers.{number-below}
 use Rattle.open.proofs.Grouping.{root-room}
+use Rattle.theta.specs.Search.{State}
 use Rattle.theta.specs.Lent.{state}
 use Rattle.round.specs.Request.{sizeOf}
 use Rattle.problem.proofs.Sizes.{vertices-most}
@@ -54,8 +55,11 @@ returns : tie.Need-returns Inv-turns μ-turns
 returns c = let l = c .before .before .before .before .before in finding-none (start l .pre .0) (l .turns .inv .0) (c .before .before .first .ensures .0) (c .before .before .first .ensures .1) (c .if1 .taken)
 
 -- the places on the way: a vertex has been expanded, it is taken, its turn begins
-abbrev taken : tie.After-slice-known10 Inv-turns μ-turns → tie.Else2 Inv-turns μ-turns
-taken c = c .before .before .before .before .before .before .before .before .before .before .before .before .before .before .before .before
+abbrev behind : tie.After-slice-known10 Inv-turns μ-turns → tie.After-expand Inv-turns μ-turns
+behind c = c .before .before .before .before .before .before .before .before .before .before
+
+abbrev taken : tie.After-expand Inv-turns μ-turns → tie.Else2 Inv-turns μ-turns
+taken o = o .before .before .before .before .before .before
 
 abbrev turn : tie.Else2 Inv-turns μ-turns → tie.At-turns Inv-turns μ-turns
 turn k = k .before .before .before .before .before .before
@@ -92,15 +96,19 @@ expand-requires c κs =
       ),
     )
 
+-- what the slices hold then
+abbrev expanded : tie.After-expand Inv-turns μ-turns → State
+expanded o = let l = o .expand .last .1 .1 .1 .1 in state (l .0) (l .1 .0) (l .1 .1 .0) 0 (o .expand .result)
+
 turns-less : tie.Need-turns-less Inv-turns μ-turns
-turns-less c = let k = taken c in omega (arith, more k)
+turns-less c = omega (arith, more (taken (behind c)))
 
 turns-again : tie.Need-turns-again Inv-turns μ-turns
 turns-again c =
-    let o = c .before .before .before .before .before .before .before .before .before .before in
-    let k = taken c in
+    let o = behind c in
+    let k = taken o in
     let l = turn k in (
-      finding-next (start l .pre .0) (l .turns .inv .0) (k .before .before .before .first .ensures .0) (k .before .before .before .first .ensures .1) (k .before .if1 .left) (not-goal k) (o .expand .ensures .0) (o .expand .ensures .1),
+      finding-next (start l .pre .0) (l .turns .inv .0) (k .before .before .before .first .ensures .0) (k .before .before .before .first .ensures .1) (k .before .if1 .left) (not-goal k) {r = expanded o} (o .expand .ensures .0) (o .expand .ensures .1),
       o .expand .kept .1 .1 .1 .1 .0 ∙ l .turns .inv .1,
       o .expand .kept .1 .1 .1 .1 .1 .0 ∙ l .turns .inv .2,
       o .expand .kept .1 .1 .1 .1 .1 .1 .0 ∙ l .turns .inv .3,
