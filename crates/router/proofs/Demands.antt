@@ -16,9 +16,9 @@ use Rattle.board.proofs.Rows.{leg-sound, leg-first, leg-within}
 use Rattle.length.proofs.Floats.{cells-exact}
 use Rattle.reach.specs.Turns.{at}
 use Rattle.theta.specs.Search.{Problem, search, path}
-use Rattle.theta.specs.Lent.{Searched}
-use Rattle.search.specs.Problem.{problem}
-use Rattle.search.proofs.Theorems.{board-complete, board-tested, board-route, board-measured, found-units, found-exact}
+use Rattle.theta.specs.Lent.{state, Searched}
+use Rattle.problem.specs.Problem.{problem}
+use Rattle.problem.proofs.Theorems.{board-complete, board-tested, board-route, board-measured, found-units, found-exact}
 use Rattle.router.specs.Answers.{Route, noRoute, found, none, Slices, workRow, searchRow, routeRow, searched, Routed}
 use Rattle.router.specs.Demands.{Exhaustive, Rightly}
 
@@ -100,8 +100,8 @@ module _ (p : Problem) (lent : ℕ) where
 
 -- what the search leaves in slices of no length, to speak of a search that found a path
 left-by : (p : Problem) → search p .found ≡ true
-    → Searched p [] [] [] (search p .state .g ++ drop (p .size) []) (search p .state .parent ++ drop (p .size) []) (search p .state .mark ++ drop (p .size) [])
-    true (search p .state .expansions) (search p .state .tests)
+    → let s = search p .state in
+    Searched p (state [] [] [] 0 0) (state (s .g ++ drop (p .size) []) (s .parent ++ drop (p .size) []) (s .mark ++ drop (p .size) []) (s .expansions) (s .tests)) true
 left-by p f = record { found-is = sym f; expansions-is = refl; tests-is = refl; g-is = refl; parent-is = refl; mark-is = refl }
 
 -- ---- the demands

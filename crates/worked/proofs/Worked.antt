@@ -11,7 +11,7 @@ use Rattle.sight.specs.Neighbours.{neighbours, visible}
 use Rattle.reach.specs.Turns.{turns}
 use Rattle.theta.specs.Order.{sooner, least}
 use Rattle.theta.specs.Search.{initial, choose, wins, around, close, expand, search, trail, path}
-use Rattle.search.specs.Problem.{problem}
+use Rattle.problem.specs.Problem.{problem}
 use Rattle.router.specs.Answers.{workRow, searchRow, routeRow, found}
 use Rattle.records.specs.Records.{byte, inOrder}
 use Rattle.faults.specs.Job.{usedBy, coordinate}

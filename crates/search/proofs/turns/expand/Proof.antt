@@ -3,9 +3,9 @@ use Prim.Native.Nat.{_≤_}
 use native.Mathlib.Omega.{arith}
 use borrow.Author.Needs.{needs}
 use Rattle.board.specs.Limits.{mostVertices, vertices-fit}
-use Rattle.search.specs.Request.{sizeOf}
-use Rattle.search.proofs.Sizes.{vertices-most}
-use Rattle.search.proofs.turns.Finding.{taking-on, taking-sited, taking-number, taking-taken}
+use Rattle.round.specs.Request.{sizeOf}
+use Rattle.problem.proofs.Sizes.{vertices-most}
+use Rattle.search.proofs.Finding.{taking-on, taking-sited, taking-number, taking-taken}
 use Rattle.search.proofs.turns.expand.Statement.{statement}
 use Rattle.search.proofs.turns.expand.Tie as tie
 
