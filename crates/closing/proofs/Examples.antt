@@ -13,7 +13,7 @@ use Rattle.sight.specs.Neighbours.{neighbours, visible}
 use Rattle.reach.specs.Turns.{turns}
 use Rattle.theta.specs.Order.{sooner, least}
 use Rattle.theta.specs.Search.{initial, choose, wins, around, close, expand, search, trail}
-use Rattle.search.specs.Problem.{problem}
+use Rattle.problem.specs.Problem.{problem}
 use Rattle.router.specs.Answers.{Slices, slices, workRow, searchRow, routeRow, slicesAfter, Routed}
 
 -- every request has its call

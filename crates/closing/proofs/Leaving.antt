@@ -16,9 +16,9 @@ use Rattle.theta.specs.Search.{Problem, search, path}
 use Rattle.theta.specs.Demands.{Work}
 use Rattle.theta.proofs.Completeness.{none-open, none-expanded}
 use Rattle.theta.proofs.Routes.{goal-open}
-use Rattle.search.specs.Problem.{problem}
-use Rattle.search.proofs.Fair.{board-fair}
-use Rattle.search.proofs.Theorems.{board-work}
+use Rattle.problem.specs.Problem.{problem}
+use Rattle.problem.proofs.Fair.{board-fair}
+use Rattle.problem.proofs.Theorems.{board-work}
 use Rattle.router.specs.Answers.{Route, Slices, searchRow, routeRow, searched, written, slicesAfter, Routed}
 use Rattle.router.proofs.Written.{Filled, filled-beyond, filled-front, filled-at}
 use Rattle.router.proofs.Demands.{start-on, row-searched, row-path, row-none, eight-none, other-found, success, failure, route-rightly}

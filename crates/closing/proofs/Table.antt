@@ -17,8 +17,8 @@ use Rattle.board.proofs.Bytes.{bad-wrong, bad-before}
 use Rattle.board.proofs.Rows.{on-board}
 use Rattle.reach.specs.Turns.{at}
 use Rattle.theta.specs.Search.{Problem, search, path}
-use Rattle.search.specs.Problem.{problem}
-use Rattle.search.proofs.Theorems.{board-complete}
+use Rattle.problem.specs.Problem.{problem}
+use Rattle.problem.proofs.Theorems.{board-complete}
 use Rattle.router.specs.Answers.{Route, noRoute, found, none, Slices, workRow, searchRow, routeRow}
 use Rattle.closing.specs.Demands.{WrongSide, FirstWrong, OffBoard, ShortWork, HasPath, thePath, Row, holds, passed, Unplaced, GivenBySearch, Given}
 use Rattle.closing.proofs.Says.{Says, says-below, says-above, says-zero, says-differ, says-either, says-not-both}

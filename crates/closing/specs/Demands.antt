@@ -10,7 +10,7 @@ use Rattle.board.specs.Board.{Board, vertices, number}
 use Rattle.board.specs.Handed.{Handed}
 use Rattle.reach.specs.Turns.{at}
 use Rattle.theta.specs.Search.{State, search, path}
-use Rattle.search.specs.Problem.{problem}
+use Rattle.problem.specs.Problem.{problem}
 use Rattle.router.specs.Answers.{Route, noRoute, Slices}
 use Rattle.router.specs.Demands.{Joined, Rightly}
 use Rattle.capi.specs.declared.Found.{Found}
