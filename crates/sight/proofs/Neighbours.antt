@@ -36,7 +36,7 @@ module _ (b : Board) (ax ay bx by : ℕ) (on : EndsOn b ax ay bx by) where
       sees-clear b ax ay bx by on
       ∙ rw (upright-stop b ax ay bx by (λ h. omega arith) e) (edges-every b false ax ay by ∙ rw (f, step-cell ay by f))
 
-  diagonal-step : far ax bx ≡ 1 → far ay by ≡ 1 → sees b ax ay bx by ≡ not (blocked b (min ax bx) (min ay by))
+  pub diagonal-step : far ax bx ≡ 1 → far ay by ≡ 1 → sees b ax ay bx by ≡ not (blocked b (min ax bx) (min ay by))
   unfolding every
   diagonal-step e f =
       let x : crossed ax ay bx by (cellAt ax bx 0) (cellAt ay by 0) ≡ true =

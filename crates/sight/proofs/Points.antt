@@ -147,14 +147,16 @@ module _ (ax ay bx by i j : ℕ) where
   -- the cell is u columns and v rows from the first end
   module _ (u v : ℕ) (hu : u < n) (hv : v < m) (ei : cellAt ax bx u ≡ i) (ej : cellAt ay by v ≡ j) where
     pub cell-gone : (p : Point) → Meets ax ay bx by p (Cell i j) → Gone n u p × Gone m v p
-    cell-gone p h =
-        (gone-out ax bx u i (i + 1) hu (omega (arith, ei)) (omega (arith, ei)) p (h .0),
-        gone-out ay by v j (j + 1) hv (omega (arith, ej)) (omega (arith, ej)) p (h .1))
+    cell-gone p h = (
+      gone-out ax bx u i (i + 1) hu (omega (arith, ei)) (omega (arith, ei)) p (h .0),
+      gone-out ay by v j (j + 1) hv (omega (arith, ej)) (omega (arith, ej)) p (h .1),
+    )
 
     cell-met : (p : Point) → Gone n u p → Gone m v p → Meets ax ay bx by p (Cell i j)
-    cell-met p g h =
-        (gone-in ax bx u i (i + 1) hu (omega (arith, ei)) (omega (arith, ei)) p g,
-        gone-in ay by v j (j + 1) hv (omega (arith, ej)) (omega (arith, ej)) p h)
+    cell-met p g h = (
+      gone-in ax bx u i (i + 1) hu (omega (arith, ei)) (omega (arith, ei)) p g,
+      gone-in ay by v j (j + 1) hv (omega (arith, ej)) (omega (arith, ej)) p h,
+    )
 
   pub met-crossed : (p : Point) → Meets ax ay bx by p (Cell i j) → crossed ax ay bx by i j ≡ true
   met-crossed p h =

@@ -88,7 +88,7 @@ returns-2 c =
     let k = c .before .before .before in
     let t = k .before .before in
     let (v, i) = t .loop .inv in
-    walk-ended i (k .if1 .left) (c .before .if3 .taken) _ (t .before .before .before .cell-beside .ensures) (c .if4 .taken)
+    walk-ended i (k .if1 .left) (omega (arith, c .before .if3 .taken)) _ (t .before .before .before .cell-beside .ensures) (c .if4 .taken)
 
 loop-again : tie.Need-loop-again Inv-loop μ-loop Inv-columns μ-columns
 loop-again c =
