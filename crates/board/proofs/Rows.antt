@@ -70,7 +70,7 @@ board-sound b e =
       full = eqb-true _ _ (not-false _ (row-passes counted 2 0 (q .0)));
     }
 
-pub on-board : (b : Board) (x y : ℕ) → isVertex b x y ≡ true → OnBoard b x y
+on-board : (b : Board) (x y : ℕ) → isVertex b x y ≡ true → OnBoard b x y
 on-board b x y e =
     let p : Bool = leb x (b .width) in
     let q : Bool = leb y (b .height) in

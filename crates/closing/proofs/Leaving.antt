@@ -1,12 +1,11 @@
 -- What a call of the route leaves: what it keeps, and what the search leaves in the work slices. Assumes nothing.
 use mathlib.Core.Path.{_≡_, refl, sym, ap, _∙_, subst}
 use mathlib.Core.Logic.{_⊎_, inl, inr, _≢_}
-use mathlib.Core.Bool.{Bool, true, false}
-use mathlib.Core.List.{List}
-use Prim.Native.Nat.{ℕ, zero, suc, _≤_, _<_}
+use mathlib.Core.Bool.{true, false}
+use Prim.Native.Nat.{ℕ, _<_}
 use native.Mathlib.Omega.{arith}
 use lib.Dec.{eqb}
-use lib.ListN.{length, take, drop}
+use lib.ListN.{length}
 use borrow.Author.Tests.{eqb-true, ne-eqb}
 use Rattle.board.specs.Board.{Board, vertices, number}
 use Rattle.board.specs.Inner.{OnBoard}
@@ -19,7 +18,7 @@ use Rattle.theta.proofs.Routes.{goal-open}
 use Rattle.problem.specs.Problem.{problem}
 use Rattle.problem.proofs.Fair.{board-fair}
 use Rattle.problem.proofs.Theorems.{board-work}
-use Rattle.router.specs.Answers.{Route, Slices, searchRow, routeRow, searched, written, slicesAfter, Routed}
+use Rattle.router.specs.Answers.{Route, Slices, searchRow, routeRow, searched, Routed}
 use Rattle.router.proofs.Written.{Filled, filled-beyond, filled-front, filled-at}
 use Rattle.router.proofs.Demands.{start-on, row-searched, row-path, row-none, eight-none, other-found, success, failure, route-rightly}
 use Rattle.closing.specs.Demands.{Kept, Theta, Searched, Left}

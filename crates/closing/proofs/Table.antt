@@ -2,21 +2,20 @@
 use mathlib.Core.Path.{_≡_, refl, sym, ap, _∙_, subst}
 use mathlib.Core.Logic.{_⊎_, inl, inr, _≢_}
 use mathlib.Core.Bool.{Bool, true, false, not, _&&_, _||_, cond, true≢false}
-use mathlib.Core.List.{List, [], _∷_}
-use Prim.Native.Nat.{ℕ, zero, suc, _*_, _≤_, _<_}
+use mathlib.Core.List.{List}
+use Prim.Native.Nat.{ℕ, _*_, _≤_, _<_}
 use native.Mathlib.Omega.{arith}
 use lib.Dec.{leb, ltb, eqb}
 use lib.ListN.{length}
-use borrow.Author.Tests.{not-false, leb-true, ltb-true, ltb-false}
+use borrow.Author.Tests.{leb-true, ltb-true, ltb-false}
 use Rattle.laws.proofs.Tests.{order}
 use Rattle.board.specs.Limits.{largestSide}
 use Rattle.board.specs.Board.{Board, isVertex, vertices, number}
 use Rattle.board.specs.Inner.{OnBoard}
 use Rattle.board.specs.Handed.{Verdict, passes, refused, row, andThen, Handed, unless, sideFits, firstBad, boardRows, endRows}
 use Rattle.board.proofs.Bytes.{bad-wrong, bad-before}
-use Rattle.board.proofs.Rows.{on-board}
 use Rattle.reach.specs.Turns.{at}
-use Rattle.theta.specs.Search.{Problem, search, path}
+use Rattle.theta.specs.Search.{search, path}
 use Rattle.problem.specs.Problem.{problem}
 use Rattle.problem.proofs.Theorems.{board-complete}
 use Rattle.router.specs.Answers.{Route, noRoute, found, none, Slices, workRow, searchRow, routeRow}
@@ -63,6 +62,13 @@ wrong-side n = says-not-both (leb 1 n) (leb n largestSide) (says-zero n) (says-a
 
 off-board : (b : Board) (x y : ℕ) → Says (not (isVertex b x y)) (OffBoard b x y)
 off-board b x y = says-not-both (leb x (b .width)) (leb y (b .height)) (says-above x (b .width)) (says-above y (b .height))
+
+-- what is not off the board is on it
+on-board : (b : Board) (x y : ℕ) → (OffBoard b x y → ⊥) → OnBoard b x y
+on-board b x y d = record { x-on = at-most (λ l. d (inl l)); y-on = at-most (λ l. d (inr l)) }
+  where
+    at-most : {w x : ℕ} → (w < x → ⊥) → x ≤ w
+    at-most n = omega arith
 
 -- the first bad byte
 first-wrong : (cells : List ℕ) → firstBad cells < length cells → FirstWrong cells (firstBad cells)
@@ -161,7 +167,7 @@ module _ (b : Board) (sx sy gx gy : ℕ) (lent : Slices) where
       (λ e₂. row-given bad (firstBad (b .cells)) _ searching (λ e. first-wrong (b .cells) (ltb-true _ _ e)) (λ e. none-wrong (b .cells) (ltb-false _ _ e))
       (λ e₃. unplaced-given (not (isVertex b sx sy)) _ searching (off-board b sx sy)
       (λ e₄. unplaced-given (not (isVertex b gx gy)) _ searching (off-board b gx gy)
-      (λ e₅. unplaced-given short passes searching short-work (λ e₆. last-given (on-board b sx sy (not-false (isVertex b sx sy) e₄)))))))))
+      (λ e₅. unplaced-given short passes searching short-work (λ e₆. last-given (on-board b sx sy (off-board b sx sy .no e₄)))))))))
 
   pub row-only : AtMostOne (Given b sx sy gx gy lent)
   row-only =
