@@ -1,11 +1,14 @@
 /* Compares the library behind include/wexxolin.h with the second router, call by call and entry by entry.
 
-       agree [SCALE [SEED [FILE]]]
+       agree [SCALE [SEED [FILE [PART]]]]
 
    SCALE 1 is the everyday run; a larger one makes about so many times the comparisons. The same SEED gives the same cases.
    The first difference ends the run with 1; it is described on standard error and in FILE (agree-difference.hex if not
-   given), as comments followed by a job that shows it where a job can. */
+   given), as comments followed by a job that shows it where a job can. PART is routes or others; both if not given.
+   Each request is made twice: every slice that the library is lent ends at a page that nobody may touch, then it begins behind
+   one, and what may only be read cannot be written. A step outside is a difference too. */
 #include "boards.h"
+#include "rooms.h"
 #include "second/second.h"
 
 #include <stdarg.h>
@@ -18,9 +21,7 @@ enum {
     MOST_CELLS = 63 * 63,
     MOST_VERTICES = 64 * 64,
     SPARE = 64,          /* how much longer than needed a lent slice may be */
-    ROOM = PAD + MOST_VERTICES + SPARE + PAD,
-    LONGEST_JOB = 8192,
-    JOB_ROOM = 70000
+    ROOM = PAD + MOST_VERTICES + SPARE + PAD
 };
 
 static struct dice dice;
@@ -154,6 +155,9 @@ static void tell_job(const uint8_t *job, size_t length)
 
 static int same_bits(double a, double b) { return memcmp(&a, &b, sizeof a) == 0; }
 
+/* Answers have no gaps between their fields, so that all of them are compared, doubles by their bits. */
+#define SAME_ANSWER(a, b) (memcmp(&(a), &(b), sizeof(a)) == 0)
+
 static void tell_number(const char *what, uint64_t theirs, uint64_t ours)
 {
     tell("%-10s library %llu, second router %llu%s", what, (unsigned long long)theirs, (unsigned long long)ours,
@@ -165,6 +169,66 @@ static void tell_double(const char *what, double theirs, double ours)
     tell("%-10s library %a, second router %a%s", what, theirs, ours, same_bits(theirs, ours) ? "" : "   <--");
 }
 
+/* ---------- lending ---------- */
+
+static struct room cells_room, g_room, parents_room, marks_room, path_room, job_room, board_room;
+
+/* The request that the library has in hand, and what tells it and its job. */
+static const void *request;
+static void (*tell_request)(const void *request);
+
+static void tell_fault(const char *where)
+{
+    tell("outside what was lent: %s", where);
+    tell_request(request);
+    end_of_telling();
+}
+
+static void open_rooms(void)
+{
+    room_open(&cells_room, "cells", MOST_CELLS + SPARE, READ_ONLY);
+    room_open(&g_room, "g", ROOM * sizeof(uint64_t), WRITABLE);
+    room_open(&parents_room, "parents", ROOM * sizeof(wexxolin_vertex), WRITABLE);
+    room_open(&marks_room, "marks", ROOM, WRITABLE);
+    room_open(&path_room, "path", ROOM * sizeof(wexxolin_vertex), WRITABLE);
+    room_open(&job_room, "job", JOB_ROOM, READ_ONLY);
+    room_open(&board_room, "board", ROOM, WRITABLE);
+    rooms_watch(tell_fault);
+}
+
+/* An empty slice may come as any pointer: none of its entries has to be there. */
+static void *lend(struct room *room, size_t bytes, enum flush flush)
+{
+    static const uintptr_t wild[] = {0, 1, 8, (uintptr_t)1 << 63, UINTPTR_MAX};
+    void *slice = room_lend(room, bytes, flush);
+    return bytes == 0 && chance(50) ? (void *)wild[below(sizeof wild / sizeof *wild)] : slice;
+}
+
+/* Bytes that the library may only read. */
+static const uint8_t *lend_bytes(struct room *room, const uint8_t *bytes, size_t length, enum flush flush)
+{
+    const uint8_t *slice = lend(room, length, flush);
+    memcpy(room->ours + room->at, bytes, length);
+    return slice;
+}
+
+/* Entries to be written. Those watched on the flush side have no place in the room: touching them is a fault. */
+static void *lend_entries(struct room *room, const void *old, size_t size, size_t length, enum flush flush)
+{
+    void *slice = lend(room, length * size, flush);
+    size_t before = flush == AT_END ? PAD * size : 0;
+    memcpy(room->ours + room->at - before, (const uint8_t *)old + PAD * size - before, (PAD + length) * size);
+    return slice;
+}
+
+/* The entries as the call left them, and those watched. */
+static void fetch_entries(const struct room *room, void *entries, const void *old, size_t size, size_t length)
+{
+    size_t before = room->flush == AT_END ? PAD * size : 0;
+    memcpy(entries, old, (PAD + length + PAD) * size);
+    memcpy((uint8_t *)entries + PAD * size - before, room->ours + room->at - before, (PAD + length) * size);
+}
+
 /* ---------- sight ---------- */
 
 struct leg_case {
@@ -172,22 +236,36 @@ struct leg_case {
     size_t cells_len, width, height, ax, ay, bx, by;
 };
 
-static uint64_t compare_sight(const struct leg_case *c)
+static void tell_leg(const void *of)
 {
-    struct wexxolin_sight a = wexxolin_sight(c->cells, c->cells_len, c->width, c->height, c->ax, c->ay, c->bx, c->by);
-    struct wexxolin_sight b = second_sight(c->cells, c->cells_len, c->width, c->height, c->ax, c->ay, c->bx, c->by);
-    count(3);
-    if (a.number == b.number && a.place == b.place && a.sight == b.sight)
-        return b.sight;
+    const struct leg_case *c = of;
     tell("sight from (%zu,%zu) to (%zu,%zu)", c->ax, c->ay, c->bx, c->by);
     tell_board(c->cells, c->cells_len, c->width, c->height);
+    if (is_board(c->cells, c->cells_len, c->width, c->height))
+        tell_job_of_board(c->cells, c->width, c->height, c->ax, c->ay, c->bx, c->by);
+}
+
+static void check_sight(const struct leg_case *c, struct wexxolin_sight b, enum flush flush)
+{
+    request = c, tell_request = tell_leg;
+    const uint8_t *cells = lend_bytes(&cells_room, c->cells, c->cells_len, flush);
+    struct wexxolin_sight a = wexxolin_sight(cells, c->cells_len, c->width, c->height, c->ax, c->ay, c->bx, c->by);
+    count(3);
+    if (SAME_ANSWER(a, b))
+        return;
     tell_number("number", a.number, b.number);
     tell_number("place", a.place, b.place);
     tell_number("sight", a.sight, b.sight);
-    if (is_board(c->cells, c->cells_len, c->width, c->height))
-        tell_job_of_board(c->cells, c->width, c->height, c->ax, c->ay, c->bx, c->by);
+    tell_leg(c);
     end_of_telling();
-    return 0;
+}
+
+static uint64_t compare_sight(const struct leg_case *c)
+{
+    struct wexxolin_sight b = second_sight(c->cells, c->cells_len, c->width, c->height, c->ax, c->ay, c->bx, c->by);
+    check_sight(c, b, AT_END);
+    check_sight(c, b, AT_FRONT);
+    return b.sight;
 }
 
 static void compare_sight_both_ways(struct leg_case c)
@@ -208,7 +286,7 @@ static void check_length(struct wexxolin_length a, struct wexxolin_length b, con
                          unsigned long long r, unsigned long long s)
 {
     count(4);
-    if (a.number == b.number && a.place == b.place && a.units == b.units && same_bits(a.cells, b.cells))
+    if (SAME_ANSWER(a, b))
         return;
     tell("%s (%lld, %lld, %llu, %llu)", call, p, q, r, s);
     tell_number("number", a.number, b.number);
@@ -222,7 +300,7 @@ static void check_direction(struct wexxolin_direction a, struct wexxolin_directi
                             long long q, unsigned long long r, unsigned long long s)
 {
     count(4);
-    if (a.number == b.number && a.place == b.place && same_bits(a.x, b.x) && same_bits(a.y, b.y))
+    if (SAME_ANSWER(a, b))
         return;
     tell("%s (%lld, %lld, %llu, %llu)", call, p, q, r, s);
     tell_number("number", a.number, b.number);
@@ -283,11 +361,19 @@ struct lent {
 
 static struct lent before, theirs, ours;
 
-static void tell_route(const struct route_case *c, struct wexxolin_route a, struct wexxolin_route b, const char *why)
+static void tell_route_request(const void *of)
 {
-    tell("route from (%zu,%zu) to (%zu,%zu): %s", c->sx, c->sy, c->gx, c->gy, why);
+    const struct route_case *c = of;
+    tell("route from (%zu,%zu) to (%zu,%zu)", c->sx, c->sy, c->gx, c->gy);
     tell_board(c->cells, c->cells_len, c->width, c->height);
     tell("slices lent: g %zu, parents %zu, marks %zu, path %zu", c->g_len, c->parents_len, c->marks_len, c->path_len);
+    if (is_board(c->cells, c->cells_len, c->width, c->height))
+        tell_job_of_board(c->cells, c->width, c->height, c->sx, c->sy, c->gx, c->gy);
+}
+
+static void tell_route(struct wexxolin_route a, struct wexxolin_route b, const char *why)
+{
+    tell("a route differs: %s", why);
     tell_number("number", a.number, b.number);
     tell_number("place", a.place, b.place);
     tell_double("cells", a.cells, b.cells);
@@ -299,15 +385,8 @@ static void tell_route(const struct route_case *c, struct wexxolin_route a, stru
 
 static void end_of_route(const struct route_case *c)
 {
-    if (is_board(c->cells, c->cells_len, c->width, c->height))
-        tell_job_of_board(c->cells, c->width, c->height, c->sx, c->sy, c->gx, c->gy);
+    tell_route_request(c);
     end_of_telling();
-}
-
-static int same_answer(struct wexxolin_route a, struct wexxolin_route b)
-{
-    return a.number == b.number && a.place == b.place && same_bits(a.cells, b.cells) && a.units == b.units &&
-           a.vertices == b.vertices && a.expansions == b.expansions && a.tests == b.tests;
 }
 
 static uint64_t entry(const void *slice, size_t size, size_t i)
@@ -335,7 +414,7 @@ static void compare_slice(const struct route_case *c, const char *name, const vo
     if (memcmp(a, b, all * size) == 0 && memcmp(a, old, PAD * size) == 0 &&
         memcmp((const uint8_t *)a + behind * size, (const uint8_t *)old + behind * size, (all - behind) * size) == 0)
         return;
-    tell_route(c, ra, rb, name);
+    tell_route(ra, rb, name);
     for (size_t i = 0, told = 0; i < all && told < 20; i++) {
         uint64_t x = entry(a, size, i), y = entry(b, size, i), z = entry(old, size, i);
         int may_change = i >= PAD && i < behind;
@@ -348,42 +427,45 @@ static void compare_slice(const struct route_case *c, const char *name, const vo
     end_of_route(c);
 }
 
-static void fill_slice(void *old, void *a, void *b, size_t size, size_t length)
+static void fill_slice(void *old, void *b, size_t size, size_t length)
 {
     size_t bytes = (PAD + length + PAD) * size;
     dice_fill(&dice, old, bytes);
-    memcpy(a, old, bytes);
     memcpy(b, old, bytes);
 }
 
 static void fill_all(const struct route_case *c)
 {
-    fill_slice(before.g, theirs.g, ours.g, sizeof *before.g, c->g_len);
-    fill_slice(before.parents, theirs.parents, ours.parents, sizeof *before.parents, c->parents_len);
-    fill_slice(before.marks, theirs.marks, ours.marks, sizeof *before.marks, c->marks_len);
-    fill_slice(before.path, theirs.path, ours.path, sizeof *before.path, c->path_len);
+    fill_slice(before.g, ours.g, sizeof *before.g, c->g_len);
+    fill_slice(before.parents, ours.parents, sizeof *before.parents, c->parents_len);
+    fill_slice(before.marks, ours.marks, sizeof *before.marks, c->marks_len);
+    fill_slice(before.path, ours.path, sizeof *before.path, c->path_len);
 }
 
-/* An empty slice may come as NULL. */
-static void *lend(void *slice, size_t length) { return length == 0 && chance(50) ? NULL : slice; }
-
-static struct wexxolin_route compare_route(const struct route_case *c)
+static struct wexxolin_route call_route(const struct route_case *c, enum flush flush)
 {
-    static uint8_t cells_before[MOST_CELLS + SPARE];
-    fill_all(c);
-    memcpy(cells_before, c->cells, c->cells_len);
-    uint64_t *g = lend(theirs.g + PAD, c->g_len);
-    wexxolin_vertex *parents = lend(theirs.parents + PAD, c->parents_len), *way = lend(theirs.path + PAD, c->path_len);
-    uint8_t *marks = lend(theirs.marks + PAD, c->marks_len);
-    struct wexxolin_route a =
-        wexxolin_route(c->cells, c->cells_len, c->width, c->height, c->sx, c->sy, c->gx, c->gy, g, c->g_len, parents,
-                       c->parents_len, marks, c->marks_len, way, c->path_len);
-    struct wexxolin_route b = second_route(
-        c->cells, c->cells_len, c->width, c->height, c->sx, c->sy, c->gx, c->gy, ours.g + PAD, c->g_len, ours.parents + PAD,
-        c->parents_len, ours.marks + PAD, c->marks_len, ours.path + PAD, c->path_len);
+    request = c, tell_request = tell_route_request;
+    const uint8_t *cells = lend_bytes(&cells_room, c->cells, c->cells_len, flush);
+    uint64_t *g = lend_entries(&g_room, before.g, sizeof *g, c->g_len, flush);
+    wexxolin_vertex *parents = lend_entries(&parents_room, before.parents, sizeof *parents, c->parents_len, flush);
+    uint8_t *marks = lend_entries(&marks_room, before.marks, sizeof *marks, c->marks_len, flush);
+    wexxolin_vertex *path = lend_entries(&path_room, before.path, sizeof *path, c->path_len, flush);
+    struct wexxolin_route answer =
+        wexxolin_route(cells, c->cells_len, c->width, c->height, c->sx, c->sy, c->gx, c->gy, g, c->g_len, parents,
+                       c->parents_len, marks, c->marks_len, path, c->path_len);
+    fetch_entries(&g_room, theirs.g, before.g, sizeof *g, c->g_len);
+    fetch_entries(&parents_room, theirs.parents, before.parents, sizeof *parents, c->parents_len);
+    fetch_entries(&marks_room, theirs.marks, before.marks, sizeof *marks, c->marks_len);
+    fetch_entries(&path_room, theirs.path, before.path, sizeof *path, c->path_len);
+    return answer;
+}
+
+static void check_route(const struct route_case *c, struct wexxolin_route b, enum flush flush)
+{
+    struct wexxolin_route a = call_route(c, flush);
     count(7);
-    if (!same_answer(a, b)) {
-        tell_route(c, a, b, "the answers differ");
+    if (!SAME_ANSWER(a, b)) {
+        tell_route(a, b, "the answers differ");
         end_of_route(c);
     }
     int searched = b.number == 0 || b.number == 7 || b.number == 8;
@@ -392,10 +474,16 @@ static struct wexxolin_route compare_route(const struct route_case *c)
     compare_slice(c, "parents", theirs.parents, ours.parents, before.parents, sizeof *ours.parents, c->parents_len, work, a, b);
     compare_slice(c, "marks", theirs.marks, ours.marks, before.marks, sizeof *ours.marks, c->marks_len, work, a, b);
     compare_slice(c, "path", theirs.path, ours.path, before.path, sizeof *ours.path, c->path_len, path, a, b);
-    if (memcmp(cells_before, c->cells, c->cells_len) != 0) {
-        tell_route(c, a, b, "the cells were written to");
-        end_of_route(c);
-    }
+}
+
+static struct wexxolin_route compare_route(const struct route_case *c)
+{
+    fill_all(c);
+    struct wexxolin_route b = second_route(
+        c->cells, c->cells_len, c->width, c->height, c->sx, c->sy, c->gx, c->gy, ours.g + PAD, c->g_len, ours.parents + PAD,
+        c->parents_len, ours.marks + PAD, c->marks_len, ours.path + PAD, c->path_len);
+    check_route(c, b, AT_END);
+    check_route(c, b, AT_FRONT);
     return b;
 }
 
@@ -489,33 +577,36 @@ static uint64_t pairs_with_expanded(const struct route_case *c, const uint8_t *m
     return pairs;
 }
 
-/* A path exists exactly if the goal is reached over visible neighbours; it starts and ends where asked, every leg has sight,
-   the lengths of the legs add up; every expanded vertex is within reach; with no path, all within reach are expanded. */
-static void check_promises_of_route(const struct route_case *c, struct wexxolin_route r)
+/* Every seen vertex is within reach; with no path, all within reach are expanded; both counts are those of the marks.
+   Returns what is wrong, or NULL. */
+static const char *wrong_marks(const struct route_case *c, struct wexxolin_route r, const uint8_t *reached)
 {
-    static uint8_t reached[MOST_VERTICES];
-    size_t stride = c->width + 1, vertices = stride * (c->height + 1), goal = c->gy * stride + c->gx;
-    const wexxolin_vertex *path = theirs.path + PAD;
+    const uint8_t *marks = theirs.marks + PAD;
     const char *wrong = NULL;
-    uint64_t units = 0, expanded = 0;
-    flood(c, reached);
-    if (r.number != 0 && r.number != 8)
-        return;
-    if ((r.number == 0) != (reached[goal] == 1))
-        wrong = "a path exists exactly if the goal is within reach";
-    for (size_t v = 0; v < vertices; v++) {
-        expanded += theirs.marks[PAD + v] == 2;
-        if (theirs.marks[PAD + v] > 2 || (theirs.marks[PAD + v] && !reached[v]))
+    uint64_t expanded = 0;
+    for (size_t v = 0; v < (c->width + 1) * (c->height + 1); v++) {
+        expanded += marks[v] == 2;
+        if (marks[v] > 2 || (marks[v] && !reached[v]))
             wrong = "a mark above 2, or a vertex out of reach seen";
-        if (r.number == 8 && reached[v] && theirs.marks[PAD + v] != 2)
+        if (r.number == 8 && reached[v] && marks[v] != 2)
             wrong = "no path, and a vertex within reach not expanded";
-        if (theirs.marks[PAD + v] == 0 && (theirs.g[PAD + v] || theirs.parents[PAD + v]))
+        if (marks[v] == 0 && (theirs.g[PAD + v] || theirs.parents[PAD + v]))
             wrong = "an unseen vertex with a g or parent";
     }
     if (expanded != r.expansions)
         wrong = "expansions are not the expanded marks";
-    if (pairs_with_expanded(c, theirs.marks + PAD) != r.tests)
+    if (pairs_with_expanded(c, marks) != r.tests)
         wrong = "tests are not the pairs of visible neighbours with an expanded one";
+    return wrong;
+}
+
+/* A path starts and ends where asked, every leg has sight, the lengths of the legs add up. Returns what is wrong, or NULL. */
+static const char *wrong_path(const struct route_case *c, struct wexxolin_route r)
+{
+    size_t stride = c->width + 1, goal = c->gy * stride + c->gx;
+    const wexxolin_vertex *path = theirs.path + PAD;
+    const char *wrong = NULL;
+    uint64_t units = 0;
     if (r.number == 0 && (path[0] != c->sy * stride + c->sx || path[r.vertices - 1] != goal || theirs.marks[PAD + goal] != 1))
         wrong = "the path's ends, or the goal's mark";
     for (size_t i = 1; i < r.vertices; i++) {
@@ -526,79 +617,100 @@ static void check_promises_of_route(const struct route_case *c, struct wexxolin_
     }
     if (units != r.units || r.cells != (double)units / 1048576.0)
         wrong = "the legs' lengths do not add up";
-    group_entries += vertices;
+    return wrong;
+}
+
+/* A path exists exactly if the goal is reached over visible neighbours; and what the two above say. */
+static void check_promises_of_route(const struct route_case *c, struct wexxolin_route r)
+{
+    static uint8_t reached[MOST_VERTICES];
+    if (r.number != 0 && r.number != 8)
+        return;
+    flood(c, reached);
+    const char *marks = wrong_marks(c, r, reached), *wrong = wrong_path(c, r);
+    if (marks)
+        wrong = marks;
+    if ((r.number == 0) != (reached[c->gy * (c->width + 1) + c->gx] == 1))
+        wrong = "a path exists exactly if the goal is within reach";
+    group_entries += (c->width + 1) * (c->height + 1);
     if (wrong) {
-        tell_route(c, r, r, wrong);
+        tell_route(r, r, wrong);
         end_of_route(c);
     }
 }
 
 /* ---------- jobs ---------- */
 
-struct job {
-    uint8_t bytes[JOB_ROOM];
-    size_t length;
+struct job_case {
+    const struct job *job;
+    size_t board_len, index;
 };
 
-static void add_record(struct job *job, unsigned a, unsigned b, unsigned c, unsigned d, unsigned e, unsigned f)
+static void tell_board_read(const void *of)
 {
-    uint8_t record[8] = {(uint8_t)a, (uint8_t)b, (uint8_t)c, (uint8_t)d, (uint8_t)e, (uint8_t)f, 0, 0};
-    memcpy(job->bytes + job->length, record, 8);
-    job->length += 8;
+    const struct job_case *c = of;
+    tell("board read into a slice of %zu", c->board_len);
+    tell_job(c->job->bytes, c->job->length);
 }
 
-static void add_hex(struct job *job, const char *hex)
+static void tell_net_read(const void *of)
 {
-    unsigned byte;
-    for (; *hex; hex++)
-        if (*hex != ' ' && sscanf(hex, "%2x", &byte) == 1) {
-            job->bytes[job->length++] = (uint8_t)byte;
-            hex++;
+    const struct job_case *c = of;
+    tell("net read at index %zu", c->index);
+    tell_job(c->job->bytes, c->job->length);
+}
+
+/* A board slice in both readers' hands. Only width * height bytes may have changed, and none with a refusal. */
+static void check_board_slice(const uint8_t *a, const uint8_t *b, const uint8_t *old, size_t all, size_t written)
+{
+    for (size_t i = 0, told = 0; i < all && told < 20; i++)
+        if (a[i] != b[i] || ((i < PAD || i >= PAD + written) && a[i] != old[i])) {
+            tell("board byte %ld: library %u, second router %u, before %u", (long)i - PAD, a[i], b[i], old[i]);
+            told++;
         }
 }
 
-static struct wexxolin_board compare_board(const struct job *job, size_t board_len)
+static void check_board(const struct job_case *c, struct wexxolin_board b, const uint8_t *b_board, const uint8_t *old, enum flush flush)
 {
-    static uint8_t old[PAD + MOST_CELLS + SPARE + PAD], a_board[sizeof old], b_board[sizeof old], job_before[JOB_ROOM];
-    size_t all = PAD + board_len + PAD;
-    fill_slice(old, a_board, b_board, 1, board_len);
-    memcpy(job_before, job->bytes, job->length);
-    const uint8_t *bytes = lend((void *)job->bytes, job->length);
-    uint8_t *board = lend(a_board + PAD, board_len);
-    struct wexxolin_board a = wexxolin_board(bytes, job->length, board, board_len);
-    struct wexxolin_board b = second_board(job->bytes, job->length, b_board + PAD, board_len);
+    static uint8_t a_board[ROOM];
+    request = c, tell_request = tell_board_read;
+    const uint8_t *bytes = lend_bytes(&job_room, c->job->bytes, c->job->length, flush);
+    uint8_t *board = lend_entries(&board_room, old, 1, c->board_len, flush);
+    struct wexxolin_board a = wexxolin_board(bytes, c->job->length, board, c->board_len);
+    fetch_entries(&board_room, a_board, old, 1, c->board_len);
+    size_t all = PAD + c->board_len + PAD;
     count(5 + all);
-    size_t behind = PAD + (b.number == 0 ? (size_t)(b.width * b.height) : 0);
-    int same = a.number == b.number && a.place == b.place && a.width == b.width && a.height == b.height && a.nets == b.nets;
-    int kept = memcmp(a_board, old, PAD) == 0 && memcmp(a_board + behind, old + behind, all - behind) == 0;
-    int untouched = memcmp(job_before, job->bytes, job->length) == 0;
-    if (same && kept && untouched && memcmp(a_board, b_board, all) == 0)
-        return b;
-    tell("board read into a slice of %zu; entries to be kept are%s kept, the job is%s as it was", board_len, kept ? "" : " NOT",
-         untouched ? "" : " NOT");
+    check_board_slice(a_board, b_board, old, all, b.number == 0 ? (size_t)(b.width * b.height) : 0);
+    if (SAME_ANSWER(a, b) && !telling)
+        return;
     tell_number("number", a.number, b.number);
     tell_number("place", a.place, b.place);
     tell_number("width", a.width, b.width);
     tell_number("height", a.height, b.height);
     tell_number("nets", a.nets, b.nets);
-    for (size_t i = 0, told = 0; i < all && told < 20; i++)
-        if (a_board[i] != b_board[i]) {
-            tell("board byte %ld: library %u, second router %u", (long)i - PAD, a_board[i], b_board[i]);
-            told++;
-        }
-    tell_job(job->bytes, job->length);
+    tell_board_read(c);
     end_of_telling();
+}
+
+static struct wexxolin_board compare_board(const struct job *job, size_t board_len)
+{
+    static uint8_t old[ROOM], b_board[ROOM];
+    struct job_case c = {job, board_len, 0};
+    fill_slice(old, b_board, 1, board_len);
+    struct wexxolin_board b = second_board(job->bytes, job->length, b_board + PAD, board_len);
+    check_board(&c, b, b_board, old, AT_END);
+    check_board(&c, b, b_board, old, AT_FRONT);
     return b;
 }
 
-static struct wexxolin_net compare_net(const struct job *job, size_t index)
+static void check_net(const struct job_case *c, struct wexxolin_net b, enum flush flush)
 {
-    struct wexxolin_net a = wexxolin_net(lend((void *)job->bytes, job->length), job->length, index);
-    struct wexxolin_net b = second_net(job->bytes, job->length, index);
+    request = c, tell_request = tell_net_read;
+    const uint8_t *bytes = lend_bytes(&job_room, c->job->bytes, c->job->length, flush);
+    struct wexxolin_net a = wexxolin_net(bytes, c->job->length, c->index);
     count(7);
-    if (memcmp(&a, &b, sizeof a) == 0)
-        return b;
-    tell("net read at index %zu", index);
+    if (SAME_ANSWER(a, b))
+        return;
     tell_number("number", a.number, b.number);
     tell_number("place", a.place, b.place);
     tell_number("net", a.net, b.net);
@@ -606,8 +718,16 @@ static struct wexxolin_net compare_net(const struct job *job, size_t index)
     tell_number("sy", a.sy, b.sy);
     tell_number("gx", a.gx, b.gx);
     tell_number("gy", a.gy, b.gy);
-    tell_job(job->bytes, job->length);
+    tell_net_read(c);
     end_of_telling();
+}
+
+static struct wexxolin_net compare_net(const struct job *job, size_t index)
+{
+    struct job_case c = {job, 0, index};
+    struct wexxolin_net b = second_net(job->bytes, job->length, index);
+    check_net(&c, b, AT_END);
+    check_net(&c, b, AT_FRONT);
     return b;
 }
 
@@ -756,14 +876,14 @@ static void document_jobs(void)
     static struct job job;
     job.length = 0;
     compare_lines(&job, "refused 12 at 0\n");
-    add_hex(&job, "0100020200000000");
+    job_hex(&job, "0100020200000000");
     compare_job(&job);
     compare_lines(&job, "");
-    add_hex(&job, "0200010002010000 0301000002010000 0302000000000000");
+    job_hex(&job, "0200010002010000 0301000002010000 0302000000000000");
     compare_job(&job);
     compare_lines(&job, "net 1 path 2531486 expanded 3 tests 10 at 0,0 1,1 2,1\nnet 2 path 0 expanded 0 tests 0 at 0,0\n");
     job.length = 0;
-    add_hex(&job, "0100030100000000 0200010002010000 0307000003000000");
+    job_hex(&job, "0100030100000000 0200010002010000 0307000003000000");
     compare_lines(&job, "net 7 none expanded 4 tests 6\n");
 }
 
@@ -1374,35 +1494,16 @@ static void expect_job(const struct job *job, uint64_t number, uint64_t place)
     end_of_telling();
 }
 
-static void add_random_net(struct job *job, unsigned net, size_t width, size_t height)
-{
-    unsigned sx = (unsigned)below(width + 1), sy = (unsigned)below(height + 1);
-    unsigned gx = (unsigned)below(width + 1), gy = (unsigned)below(height + 1);
-    add_record(job, 3, net, sx, sy, gx, gy);
-}
-
-static void full_job(struct job *job, size_t width, size_t height)
-{
-    job->length = 0;
-    add_record(job, 1, 0, (unsigned)width, (unsigned)height, 0, 0);
-    for (unsigned i = 0; i < 768; i++) {
-        unsigned x = i % (unsigned)width, y = i / (unsigned)width * 2 % (unsigned)height;
-        add_record(job, 2, 0, x, y, x + 1, y + 1);
-    }
-    for (unsigned i = 1; i <= 255; i++)
-        add_random_net(job, i, width, height);
-}
-
 static void group_job_table(void)
 {
     static struct job job;
     begin_group("job reader, table by hand");
     for (size_t i = 0; i < sizeof job_rows / sizeof *job_rows; i++) {
         job.length = 0;
-        add_hex(&job, job_rows[i].hex);
+        job_hex(&job, job_rows[i].hex);
         expect_job(&job, job_rows[i].number, job_rows[i].place);
     }
-    full_job(&job, 63, 63);
+    job_full(&dice, &job, 63, 63);
     expect_job(&job, 0, 0);
     static const size_t lengths[] = {8193, 8195, 8199, 8200, 8208, 16384, 65536, 65544, 69999};
     for (size_t i = 0; i < sizeof lengths / sizeof *lengths; i++) {
@@ -1426,51 +1527,6 @@ static void group_job_table(void)
     end_group();
 }
 
-static void random_job(struct job *job, size_t most_keepouts, size_t most_nets, size_t largest)
-{
-    unsigned width = 1 + (unsigned)below(largest), height = 1 + (unsigned)below(largest), net = 0;
-    job->length = 0;
-    add_record(job, 1, 0, width, height, 0, 0);
-    for (size_t k = below(most_keepouts + 1); k > 0; k--) {
-        unsigned x = (unsigned)below(width), y = (unsigned)below(height);
-        unsigned across = chance(60) ? 1 : 1 + (unsigned)below(width - x), down = chance(60) ? 1 : 1 + (unsigned)below(height - y);
-        add_record(job, 2, 0, x, y, x + across, y + down);
-    }
-    for (size_t k = below(most_nets + 1); k > 0; k--) {
-        net += 1 + (unsigned)below(most_nets > 40 ? 2 : 6);
-        if (net > 255)
-            break;
-        add_random_net(job, net, width, height);
-    }
-}
-
-/* Changes a few bytes, or the length, or the order of two records. */
-static void damage(struct job *job)
-{
-    static const uint8_t bytes[] = {0, 1, 2, 3, 4, 5, 62, 63, 64, 65, 127, 128, 255};
-    size_t records = job->length / 8;
-    for (size_t k = 1 + below(3); k > 0 && job->length > 0; k--) {
-        size_t at = below(job->length), a = 8 * below(records), b = 8 * below(records);
-        uint8_t swap[8];
-        switch (below(8)) {
-        case 0: job->bytes[at] ^= (uint8_t)(1 << below(8)); break;
-        case 1: job->bytes[at] = any_byte(); break;
-        case 2: job->bytes[at]++; break;
-        case 3: job->bytes[at]--; break;
-        case 4:
-            memcpy(swap, job->bytes + a, 8);
-            memcpy(job->bytes + a, job->bytes + b, 8);
-            memcpy(job->bytes + b, swap, 8);
-            break;
-        case 5:
-            if (chance(30))
-                job->length = at, records = at / 8;
-            break;
-        default: job->bytes[at] = bytes[below(sizeof bytes)]; break;
-        }
-    }
-}
-
 static void group_random_jobs(void)
 {
     static struct job job, damaged;
@@ -1478,30 +1534,30 @@ static void group_random_jobs(void)
     for (size_t k = 0; k < 1500 * scale; k++) {
         size_t width = 1 + below(63), height = 1 + below(63);
         if (k % 100 == 7)
-            full_job(&job, width, height);
+            job_full(&dice, &job, width, height);
         else if (k % 20 == 3)
-            random_job(&job, 300, 255, 63);
+            job_random(&dice, &job, 300, 255, 63);
         else
-            random_job(&job, 8, 6, k % 3 ? 8 : 63);
+            job_random(&dice, &job, 8, 6, k % 3 ? 8 : 63);
         compare_job(&job);
     }
     end_group();
     begin_group("job reader, damaged jobs");
     for (size_t k = 0; k < 12000 * scale; k++) {
         if (k % 40 == 3)
-            random_job(&job, 200, 255, 63);
+            job_random(&dice, &job, 200, 255, 63);
         else
-            random_job(&job, 4, 4, 8);
+            job_random(&dice, &job, 4, 4, 8);
         damaged = job;
-        damage(&damaged);
+        job_damage(&dice, &damaged);
         compare_job(&damaged);
     }
     end_group();
     begin_group("lines of random and damaged jobs");
     for (size_t k = 0; k < 400 * scale; k++) {
-        random_job(&job, 12, 8, k % 20 == 0 ? 30 : 10);
+        job_random(&dice, &job, 12, 8, k % 20 == 0 ? 30 : 10);
         if (k % 3 == 0)
-            damage(&job);
+            job_damage(&dice, &job);
         compare_lines(&job, NULL);
     }
     end_group();
@@ -1509,18 +1565,9 @@ static void group_random_jobs(void)
 
 /* ---------- all ---------- */
 
-int main(int argc, char **argv)
+static void all_but_routes(uint64_t seed)
 {
-    uint64_t seed = argc > 2 ? strtoull(argv[2], NULL, 0) : 1;
-    scale = argc > 1 ? (size_t)strtoull(argv[1], NULL, 0) : 1;
-    if (argc > 3)
-        difference_file = argv[3];
-    if (scale == 0) {
-        fprintf(stderr, "usage: agree [SCALE [SEED [FILE]]], SCALE at least 1\n");
-        return 2;
-    }
     dice = dice_of(seed);
-    printf("scale %zu, seed %llu\n", scale, (unsigned long long)seed);
     group_document();
     group_differences();
     group_between();
@@ -1531,8 +1578,33 @@ int main(int argc, char **argv)
     group_single_cells();
     group_near_sights();
     group_random_sights();
+}
+
+/* Dice of its own, so that the cases are the same whether the two parts run one after the other or at once. */
+static void all_routes(uint64_t seed)
+{
+    dice = dice_of(seed + 1);
     group_small_routes();
     group_random_routes();
+}
+
+int main(int argc, char **argv)
+{
+    uint64_t seed = argc > 2 ? strtoull(argv[2], NULL, 0) : 1;
+    scale = argc > 1 ? (size_t)strtoull(argv[1], NULL, 0) : 1;
+    if (argc > 3)
+        difference_file = argv[3];
+    if (scale == 0) {
+        fprintf(stderr, "usage: agree [SCALE [SEED [FILE [PART]]]], SCALE at least 1\n");
+        return 2;
+    }
+    const char *part = argc > 4 ? argv[4] : "all";
+    printf("scale %zu, seed %llu, %s\n", scale, (unsigned long long)seed, part);
+    open_rooms();
+    if (strcmp(part, "routes") != 0)
+        all_but_routes(seed);
+    if (strcmp(part, "others") != 0)
+        all_routes(seed);
     printf("%-34s %10llu calls compared, %12llu numbers and entries\n", "no difference:", (unsigned long long)all_calls,
            (unsigned long long)all_entries);
     return 0;

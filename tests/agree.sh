@@ -3,5 +3,5 @@
 # LIBRARY=fast tests/agree.sh tries it on the fast router. A difference is described in agree-difference.hex.
 set -eu
 . "$(dirname "$0")/settings.sh"
-build agree "$root/tests/agree.c" "$root/tests/boards.c" "$root/tests/second/second.c"
+build agree "$root/tests/agree.c" "$root/tests/rooms.c" "$root/tests/boards.c" "$root/tests/second/second.c"
 exec $RUN "$OUT/agree" "${1:-1}" "${2:-1}" "$OUT/agree-difference.hex"

@@ -1,5 +1,6 @@
 #include "boards.h"
 
+#include <stdio.h>
 #include <string.h>
 
 struct dice dice_of(uint64_t seed)
@@ -132,4 +133,92 @@ void board_enclose(uint8_t *cells, size_t width, size_t height, size_t x, size_t
     for (size_t j = y ? y - 1 : 0; j <= y && j < height; j++)
         for (size_t i = x ? x - 1 : 0; i <= x && i < width; i++)
             cells[j * width + i] = 1;
+}
+
+void job_record(struct job *job, unsigned a, unsigned b, unsigned c, unsigned d, unsigned e, unsigned f)
+{
+    uint8_t record[8] = {(uint8_t)a, (uint8_t)b, (uint8_t)c, (uint8_t)d, (uint8_t)e, (uint8_t)f, 0, 0};
+    memcpy(job->bytes + job->length, record, 8);
+    job->length += 8;
+}
+
+void job_hex(struct job *job, const char *hex)
+{
+    unsigned byte;
+    for (; *hex; hex++)
+        if (*hex != ' ' && sscanf(hex, "%2x", &byte) == 1) {
+            job->bytes[job->length++] = (uint8_t)byte;
+            hex++;
+        }
+}
+
+static unsigned below(struct dice *dice, size_t count) { return (unsigned)dice_below(dice, count); }
+
+static void add_net(struct dice *dice, struct job *job, unsigned net, size_t width, size_t height)
+{
+    unsigned sx = below(dice, width + 1), sy = below(dice, height + 1);
+    unsigned gx = below(dice, width + 1), gy = below(dice, height + 1);
+    job_record(job, 3, net, sx, sy, gx, gy);
+}
+
+static void add_keepout(struct dice *dice, struct job *job, size_t width, size_t height)
+{
+    unsigned x = below(dice, width), y = below(dice, height), across = 1, down = 1;
+    if (below(dice, 100) >= 60)
+        across += below(dice, width - x);
+    if (below(dice, 100) >= 60)
+        down += below(dice, height - y);
+    job_record(job, 2, 0, x, y, x + across, y + down);
+}
+
+void job_random(struct dice *dice, struct job *job, size_t most_keepouts, size_t most_nets, size_t largest)
+{
+    unsigned width = 1 + below(dice, largest), height = 1 + below(dice, largest), net = 0;
+    job->length = 0;
+    job_record(job, 1, 0, width, height, 0, 0);
+    for (size_t k = below(dice, most_keepouts + 1); k > 0; k--)
+        add_keepout(dice, job, width, height);
+    for (size_t k = below(dice, most_nets + 1); k > 0; k--) {
+        net += 1 + below(dice, most_nets > 40 ? 2 : 6);
+        if (net > 255)
+            break;
+        add_net(dice, job, net, width, height);
+    }
+}
+
+void job_full(struct dice *dice, struct job *job, size_t width, size_t height)
+{
+    job->length = 0;
+    job_record(job, 1, 0, (unsigned)width, (unsigned)height, 0, 0);
+    for (unsigned i = 0; i < 768; i++) {
+        unsigned x = i % (unsigned)width, y = i / (unsigned)width * 2 % (unsigned)height;
+        job_record(job, 2, 0, x, y, x + 1, y + 1);
+    }
+    for (unsigned i = 1; i <= 255; i++)
+        add_net(dice, job, i, width, height);
+}
+
+static void exchange_records(struct job *job, size_t a, size_t b)
+{
+    uint8_t kept[8];
+    memcpy(kept, job->bytes + 8 * a, 8);
+    memcpy(job->bytes + 8 * a, job->bytes + 8 * b, 8);
+    memcpy(job->bytes + 8 * b, kept, 8);
+}
+
+void job_damage(struct dice *dice, struct job *job)
+{
+    static const uint8_t bytes[] = {0, 1, 2, 3, 4, 5, 62, 63, 64, 65, 127, 128, 255};
+    for (size_t k = 1 + below(dice, 3); k > 0 && job->length > 0; k--) {
+        size_t at = below(dice, job->length), a = below(dice, job->length / 8), b = below(dice, job->length / 8);
+        switch (below(dice, 8)) {
+        case 0: job->bytes[at] ^= (uint8_t)(1 << below(dice, 8)); break;
+        case 1: job->bytes[at] = (uint8_t)below(dice, 256); break;
+        case 2: job->bytes[at]++; break;
+        case 3: job->bytes[at]--; break;
+        case 4: exchange_records(job, a, b); break;
+        case 5: job->length = below(dice, 100) < 30 ? at : job->length; break;
+        default: job->bytes[at] = bytes[below(dice, sizeof bytes)]; break;
+        }
+    }
 }

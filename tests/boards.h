@@ -1,4 +1,4 @@
-/* Dice that always fall the same way for a seed, and boards of several kinds thrown with them. */
+/* Dice that always fall the same way for a seed, and boards and jobs of several kinds thrown with them. */
 #ifndef BOARDS_H
 #define BOARDS_H
 
@@ -25,5 +25,21 @@ void board_divided(struct dice *dice, uint8_t *cells, size_t width, size_t heigh
 
 /* Blocks the four cells around a vertex. */
 void board_enclose(uint8_t *cells, size_t width, size_t height, size_t x, size_t y);
+
+enum { JOB_ROOM = 70000 };
+
+struct job {
+    uint8_t bytes[JOB_ROOM];
+    size_t length;
+};
+
+/* Add a record, whose last two bytes are 0; add bytes written in hex. */
+void job_record(struct job *job, unsigned a, unsigned b, unsigned c, unsigned d, unsigned e, unsigned f);
+void job_hex(struct job *job, const char *hex);
+
+/* A job that is accepted; one as long as can be; and what damages one: bytes, the length, the order of two records. */
+void job_random(struct dice *dice, struct job *job, size_t most_keepouts, size_t most_nets, size_t largest);
+void job_full(struct dice *dice, struct job *job, size_t width, size_t height);
+void job_damage(struct dice *dice, struct job *job);
 
 #endif

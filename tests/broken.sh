@@ -1,42 +1,78 @@
 #!/bin/sh
-# broken.sh [NAME...]: breaks the fast router in one way after another and looks whether the harness finds it.
-# Prints for each way the group of cases that found it; fails if one stays unfound.
+# broken.sh [NAME...]: breaks the fast router in one way after another and looks whether the harnesses find it, and a route
+# program likewise. Prints for each way the group of cases that found it; fails if one stays unfound.
 set -eu
 here=$(cd "$(dirname "$0")" && pwd)
 LIBRARY=fast
 . "$here/settings.sh"
 work=$OUT/broken
 rm -rf "$work"
-mkdir -p "$work/bench" "$work/include"
+mkdir -p "$work/bench" "$work/include" "$work/tests/second"
 cp "$root/include/wexxolin.h" "$work/include"
-for part in tests/agree tests/boards tests/second/second; do
+for part in tests/agree tests/far tests/stack tests/thrown tests/rooms tests/boards tests/second/second; do
     $CC $FLAGS -c -o "$work/$(basename $part).o" "$root/$part.c"
 done
+$CC $FLAGS -o "$work/thrown" "$work/thrown.o" "$work/boards.o" "$work/second.o"
+# the stack of the fast router when it is whole, in KiB
+$CC $FLAGS -o "$work/stack" "$work/stack.o" "$work/rooms.o" "$work/boards.o" $LIBRARY
+fast_kib=$($RUN "$work/stack" 1024 | sed 's/.* route \([0-9]*\) .*/\1/')
+fast_kib=$((fast_kib / 1024 + 1))
 found=0 unfound=0
 
-# broken NAME FILE PERL: one way to break FILE
-broken() {
-    case " $wanted " in *" $1 "* | "  ") ;; *) return 0 ;; esac
-    cp "$root/bench/fast.c" "$root/bench/fast.h" "$root/bench/fast_library.c" "$work/bench"
-    perl -0pi -e "$3" "$work/bench/$2"
-    if cmp -s "$root/bench/$2" "$work/bench/$2"; then
+is_wanted() {
+    case " $wanted " in *" $1 "* | "  ") ;; *) return 1 ;; esac
+}
+
+# change NAME FROM TO PERL: the file FROM with one change
+change() {
+    cp "$2" "$3"
+    perl -0pi -e "$4" "$3"
+    if cmp -s "$2" "$3"; then
         echo "$1: the change does not apply" >&2
         exit 2
     fi
-    $CC $FLAGS -w -o "$work/agree" "$work/agree.o" "$work/boards.o" "$work/second.o" "$work/bench/fast.c" "$work/bench/fast_library.c"
-    rm -f "$work/$1.hex"
-    status=0
-    timeout 100 $RUN "$work/agree" 1 1 "$work/$1.hex" >"$work/$1.out" 2>"$work/$1.err" || status=$?
-    if [ $status = 1 ] && grep -q '^DIFFERENCE' "$work/$1.err"; then
+}
+
+# judge NAME COMMAND...: runs a harness on what is broken
+judge() {
+    name=$1 status=0
+    shift
+    timeout 100 "$@" >"$work/$name.out" 2>"$work/$name.err" || status=$?
+    if [ $status = 1 ] && grep -q '^DIFFERENCE' "$work/$name.err"; then
         found=$((found + 1))
-        printf 'found    %-26s %s: %s\n' "$1" "$(sed -n "s/^DIFFERENCE in group '\(.*\)'/\1/p" "$work/$1.err")" "$(sed -n 2p "$work/$1.err")"
+        printf 'found    %-26s %s: %s\n' "$name" "$(sed -n "s/^DIFFERENCE in group '\(.*\)'/\1/p" "$work/$name.err")" "$(sed -n 2p "$work/$name.err")"
     elif [ $status = 0 ]; then
         unfound=$((unfound + 1))
-        printf 'UNFOUND  %s\n' "$1"
+        printf 'UNFOUND  %s\n' "$name"
     else
         found=$((found + 1))
-        printf 'found    %-26s the run ended with %s\n' "$1" "$status"
+        printf 'found    %-26s the run ended with %s\n' "$name" "$status"
     fi
+}
+
+# broken NAME FILE PERL [HARNESS]: one way to break FILE of the fast router, for agree or the harness that is named
+broken() {
+    is_wanted "$1" || return 0
+    harness=${4:-agree}
+    cp "$root/bench/fast.c" "$root/bench/fast.h" "$root/bench/fast_library.c" "$work/bench"
+    change "$1" "$root/bench/$2" "$work/bench/$2" "$3"
+    with="$work/rooms.o $work/boards.o $work/second.o"
+    $CC $FLAGS -w -o "$work/$harness" "$work/$harness.o" $with "$work/bench/fast.c" "$work/bench/fast_library.c"
+    rm -f "$work/$1.hex"
+    case $harness in
+    agree) judge "$1" $RUN "$work/agree" 1 1 "$work/$1.hex" ;;
+    far) judge "$1" $RUN "$work/far" 1 1 ;;
+    stack) judge "$1" $RUN "$work/stack" $fast_kib ;;
+    esac
+}
+
+# broken_program NAME FILE PERL: one way to break FILE of tests/second, which makes a route program
+broken_program() {
+    is_wanted "$1" || return 0
+    cp "$root/tests/second/second.c" "$root/tests/second/second.h" "$root/tests/second/lines.c" "$work/tests/second"
+    change "$1" "$root/tests/second/$2" "$work/tests/second/$2" "$3"
+    $CC $FLAGS -w -o "$work/program" "$work/tests/second/lines.c" "$work/tests/second/second.c"
+    judge "$1" $RUN "$work/thrown" 1 1 "$work/program"
 }
 
 wanted="$*"
@@ -143,6 +179,58 @@ broken keepouts-toggle fast_library.c 's/memset\(board \+ y \* job\.width \+ r\[
 broken twenty-one-later fast_library.c 's/index >= job\.records - job\.first_net/index > job.records - job.first_net/'
 broken index-wraps fast_library.c 's/index >= job\.records - job\.first_net/8 * index >= 8 * (job.records - job.first_net)/'
 broken start-and-goal-swapped fast_library.c 's/r\[1\], r\[2\], r\[3\], r\[4\], r\[5\]\}/r[1], r[4], r[5], r[2], r[3]}/'
+
+# reads, and writes of the byte that is there already: only the pages beside the slices and the read-only ones can tell
+accepted='(    if \(bx > width \|\| by > height\)\n        return 5;\n)'
+lent='(    struct slices to = )'
+broken cells-read-behind fast.c "s/$accepted/\$1    (void)((const volatile uint8_t *)cells)[cells_len];\n/"
+broken cells-read-before fast.c "s/$accepted/\$1    (void)((const volatile uint8_t *)cells)[-1];\n/"
+broken cells-written-alike fast.c "s/$accepted/\$1    ((volatile uint8_t *)cells)[0] = cells[0];\n/"
+broken cells-read-before-two fast.c 's/(    if \(cells_len != width \* height\))/    (void)((const volatile uint8_t *)cells)[width * height - 1];\n$1/'
+broken g-read-behind fast.c "s/$lent/    (void)((volatile uint64_t *)g)[g_len];\n\$1/"
+broken parents-read-before fast.c "s/$lent/    (void)((volatile wexxolin_vertex *)parents)[-1];\n\$1/"
+broken marks-written-alike-behind fast.c "s/$lent/    ((volatile uint8_t *)marks)[marks_len] = marks[marks_len];\n\$1/"
+broken marks-read-before-six fast.c 's/(    if \(g_len < count)/    (void)((volatile uint8_t *)marks)[count - 1];\n$1/'
+broken path-written-alike-behind fast.c 's/(answer\.vertices = needed;)/$1 ((volatile wexxolin_vertex *)path)[path_len] = path[path_len];/'
+broken path-written-alike-with-7 fast.c 's/answer\.number = 7;/answer.number = 7; ((volatile wexxolin_vertex *)path)[needed - 1] = path[needed - 1];/'
+broken path-read-when-empty fast.c "s/$lent/    (void)((volatile wexxolin_vertex *)path)[0];\n\$1/"
+broken job-read-behind fast_library.c 's/(    unsigned last = 0;)/    (void)((const volatile uint8_t *)bytes)[length];\n$1/'
+broken job-read-when-empty fast_library.c 's/(    if \(length > 8192)/    (void)((const volatile uint8_t *)bytes)[0];\n$1/'
+broken job-written-alike fast_library.c 's/(    unsigned last = 0;)/    ((volatile uint8_t *)bytes)[0] = bytes[0];\n$1/'
+broken board-written-alike-behind fast_library.c 's/(    memset\(board, 0, count\);)/$1 ((volatile uint8_t *)board)[board_len] = board[board_len];/'
+broken board-read-with-19 fast_library.c 's/job\.number = 19;/job.number = 19, (void)((volatile uint8_t *)board)[count - 1];/'
+
+# lengths and numbers cut to fewer bits
+broken cells-length-in-32-bits fast.c 's/cells_len != width/(uint32_t)cells_len != width/' far
+broken cells-length-in-16-bits fast.c 's/cells_len != width/(uint16_t)cells_len != width/' far
+broken g-length-in-32-bits fast.c 's/g_len < count/(uint32_t)g_len < count/' far
+broken parents-length-in-32-bits fast.c 's/parents_len < count/(uint32_t)parents_len < count/' far
+broken parents-length-in-31-bits fast.c 's/parents_len < count/(parents_len \& 0x7fffffff) < count/' far
+broken marks-length-in-16-bits fast.c 's/marks_len < count/(uint16_t)marks_len < count/' far
+broken path-length-in-32-bits fast.c 's/needed > path_len/needed > (uint32_t)path_len/' far
+broken g-length-as-int fast.c 's/g_len < count/(int)g_len < (int)count/' far
+broken job-length-in-32-bits fast_library.c 's/length > 8192 \|\|/(uint32_t)length > 8192 ||/' far
+broken board-length-in-32-bits fast_library.c 's/board_len < count/(uint32_t)board_len < count/' far
+broken index-in-32-bits fast_library.c 's/index >= job/(uint32_t)index >= job/' far
+broken width-in-32-bits fast.c 's/width - 1 > LARGEST_SIDE - 1/(uint32_t)width - 1 > LARGEST_SIDE - 1/' far
+broken height-in-8-bits fast.c 's/height - 1 > LARGEST_SIDE - 1/(uint8_t)(height - 1) > LARGEST_SIDE - 1/' far
+broken start-in-32-bits fast.c 's/ax > width/(uint32_t)ax > width/' far
+broken goal-signed fast.c 's/by > height/(int64_t)by > (int64_t)height/' far
+broken ends-in-63-bits fast_library.c 's/\(bx \| by\) > 63/(bx | by) << 1 > 126/' far
+broken far-end-cleared fast.c 's/(    struct slices to = )/    if (marks_len >> 32) marks[marks_len - 1] = 0;\n$1/' far
+
+# the stack
+broken stack-two-kib-more fast.c 's/(    struct slices to = )/    volatile uint8_t more[2048]; more[0] = 1;\n$1/' stack
+
+# the program
+broken_program program-cuts-at-8192 lines.c 's/job\[8193\]/job[8192]/'
+broken_program program-without-last-newline lines.c 's/text\.length, stdout/text.length - 1, stdout/'
+broken_program program-killed lines.c 's/return 0;/return text.length > 400 ? *(volatile int *)0 : 0;/'
+broken_program program-equal-nets second.c 's/r\[1\] <= job->last_net/r[1] < job->last_net/'
+broken_program program-keepout-after-net second.c 's/r\[0\] == TYPE_KEEPOUT && job->nets > 0/r[0] == TYPE_KEEPOUT \&\& job->nets > 1/'
+broken_program program-byte-7-unread second.c 's/return r\[6\] != 0 \|\| r\[7\] != 0;/return r[6] != 0;/'
+broken_program program-goal-unjudged second.c 's/ \|\| r\[5\] > job->height;\n\}/;\n}/'
+broken_program program-refusals-exchanged second.c 's/(    if \(is_13.*?return 13;\n)(.*?return 12;\n)/$2$1/s'
 
 echo "$found found, $unfound unfound"
 [ "$unfound" = 0 ]

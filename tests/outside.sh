@@ -1,19 +1,61 @@
 #!/bin/sh
 # outside.sh [SCALE [SEED]]: everything that is tried from outside, on the library and the route program that are built already.
-# The last line counts the comparisons of programs: 'N passed, 0 failed'.
+# The routes and the thrown jobs run beside the rest. The last line counts the comparisons of programs: 'N passed, 0 failed'.
 set -eu
 . "$(dirname "$0")/settings.sh"
+scale=${1:-1} seed=${2:-1}
+rooms=$OUT/rooms.o boards=$OUT/boards.o second=$OUT/second.o
+running=
+trap 'kill $running 2>/dev/null || true' EXIT
 
-"$root/tests/agree.sh" "${1:-1}" "${2:-1}"
+# beside NAME COMMAND...: starts it; finish NAME shows what it printed, and ends all if it failed
+beside() {
+    name=$1
+    shift
+    "$@" >"$OUT/$name.out" 2>&1 &
+    running="$running $!"
+    eval "${name}_id=$!"
+}
+finish() {
+    eval "id=\$${1}_id"
+    status=0
+    wait "$id" || status=$?
+    cat "$OUT/$1.out"
+    [ $status = 0 ] || exit 1
+}
+
+beside agree part agree "$root/tests/agree.c"
+part rooms "$root/tests/rooms.c"
+part boards "$root/tests/boards.c"
+part second "$root/tests/second/second.c"
+build thrown "$root/tests/thrown.c" "$boards" "$second"
+build far "$root/tests/far.c" "$rooms" "$boards" "$second"
+build stack "$root/tests/stack.c" "$rooms" "$boards"
+build example "$root/examples/route.c"
+finish agree
+build agree "$OUT/agree.o" "$rooms" "$boards" "$second"
+
+beside routes $RUN "$OUT/agree" "$scale" "$seed" "$OUT/agree-difference.hex" routes
+beside thrown $RUN "$OUT/thrown" "$scale" "$seed" "$root/tests/run_route.sh"
+
+$RUN "$OUT/agree" "$scale" "$seed" "$OUT/agree-difference-others.hex" others
+$RUN "$OUT/far" "$scale" "$seed"
+
+# the figure that the header states for its callers
+kib=$(sed -n 's/.* \([0-9][0-9]*\) KiB of stack.*/\1/p' "$root/include/wexxolin.h" | sort -n | tail -n 1)
+[ -n "$kib" ] || { echo "include/wexxolin.h states no KiB of stack" >&2; exit 1; }
+$RUN "$OUT/stack" "$kib"
+
+$RUN "$OUT/example" > "$OUT/example.out"
+cmp "$OUT/example.out" "$root/examples/route.expected"
+echo "the C example prints what it should"
 
 jobs=$("$root/tests/run_jobs.sh" "$root/tests/run_route.sh")
 echo "$jobs" | tail -n 3
 passed=$(echo "$jobs" | tail -n 1 | sed -n 's/^\([0-9]*\) passed, 0 failed$/\1/p')
 [ -n "$passed" ] || exit 1
+finish thrown
+finish routes
+running=
 
-build example "$root/examples/route.c"
-$RUN "$OUT/example" > "$OUT/example.out"
-cmp "$OUT/example.out" "$root/examples/route.expected"
-echo "the C example prints what it should"
-
-echo "$((passed + 2)) passed, 0 failed"
+echo "$((passed + 5)) passed, 0 failed"

@@ -31,3 +31,8 @@ build() {
     done
     $CC $FLAGS -I "$root/include" -o "$OUT/$name" "$@" $LIBRARY $LINK
 }
+
+# part NAME SOURCE: an object file for several programs
+part() {
+    $CC $FLAGS -I "$root/include" -c -o "$OUT/$1.o" "$2"
+}

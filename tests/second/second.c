@@ -184,7 +184,7 @@ static struct refusal check_ends_without_board(size_t ax, size_t ay, size_t bx, 
 
 static struct wexxolin_length length_answer(struct refusal refusal, int dx, int dy)
 {
-    struct wexxolin_length answer = {refusal.number, refusal.place, 0, 0.0};
+    struct wexxolin_length answer = {.number = refusal.number, .place = refusal.place};
     if (refusal.number == 0) {
         answer.units = units_of(dx, dy);
         answer.cells = cells_of(answer.units);
@@ -197,7 +197,7 @@ static struct wexxolin_direction direction_answer(struct refusal refusal, int dx
 {
     if (refusal.number == 0 && dx == 0 && dy == 0)
         refusal = refuse(9, 0);
-    struct wexxolin_direction answer = {refusal.number, refusal.place, 0.0, 0.0};
+    struct wexxolin_direction answer = {.number = refusal.number, .place = refusal.place};
     if (refusal.number == 0) {
         answer.x = quotient(dx, units_of(dx, dy));
         answer.y = quotient(dy, units_of(dx, dy));
@@ -262,7 +262,7 @@ struct wexxolin_sight second_sight(const uint8_t *cells, size_t cells_len, size_
                                    size_t ax, size_t ay, size_t bx, size_t by)
 {
     struct refusal refusal = check_board_and_ends(cells, cells_len, width, height, ax, ay, bx, by);
-    struct wexxolin_sight answer = {refusal.number, refusal.place, 0};
+    struct wexxolin_sight answer = {.number = refusal.number, .place = refusal.place};
     if (refusal.number == 0) {
         struct board board = {cells, (int)width, (int)height};
         struct point a = {(int)ax, (int)ay}, b = {(int)bx, (int)by};
@@ -408,7 +408,7 @@ static uint64_t path_units(const struct search *s, const wexxolin_vertex *path, 
 /* "0: length, units, vertex count, both counts"; "7: vertex count needed", as the place; "8: both counts" */
 static struct wexxolin_route search_answer(struct search *s, wexxolin_vertex *path, size_t path_len)
 {
-    struct wexxolin_route answer = {0, 0, 0.0, 0, 0, 0, 0};
+    struct wexxolin_route answer = {.number = 0, .place = 0};
     if (run_search(s)) {
         size_t count = path_count(s);
         if (count > path_len) {
@@ -441,7 +441,7 @@ struct wexxolin_route second_route(const uint8_t *cells, size_t cells_len, size_
             refusal = refuse(6, 0);
     }
     if (refusal.number) {
-        struct wexxolin_route answer = {refusal.number, refusal.place, 0.0, 0, 0, 0, 0};
+        struct wexxolin_route answer = {.number = refusal.number, .place = refusal.place};
         return answer;
     }
     struct search s = {.board = {cells, (int)width, (int)height}, .start = {(int)sx, (int)sy}, .goal = {(int)gx, (int)gy},
@@ -579,7 +579,7 @@ struct wexxolin_board second_board(const uint8_t *bytes, size_t length, uint8_t 
     struct refusal refusal = check_job(bytes, length, &job);
     if (refusal.number == 0 && board_len < (size_t)job.width * job.height)
         refusal = refuse(19, 0);
-    struct wexxolin_board answer = {refusal.number, refusal.place, 0, 0, 0};
+    struct wexxolin_board answer = {.number = refusal.number, .place = refusal.place};
     if (refusal.number == 0) {
         write_cells(bytes, length, &job, board);
         answer.width = job.width;
@@ -610,7 +610,7 @@ struct wexxolin_net second_net(const uint8_t *bytes, size_t length, size_t index
     struct refusal refusal = check_job(bytes, length, &job);
     if (refusal.number == 0 && index >= job.nets)
         refusal = refuse(20, 0);
-    struct wexxolin_net answer = {refusal.number, refusal.place, 0, 0, 0, 0, 0};
+    struct wexxolin_net answer = {.number = refusal.number, .place = refusal.place};
     if (refusal.number == 0) {
         const uint8_t *r = net_record(bytes, index);
         answer.net = r[1];

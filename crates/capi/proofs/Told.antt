@@ -5,11 +5,11 @@ use Rattle.board.specs.declared.Refusal.{Refusal}
 use Rattle.board.specs.declared.Refusal.the-variants as board
 use Rattle.board.specs.Handed.{Verdict, refused, Handed, judged, refusalRow, numberIn, placeIn}
 use Rattle.board.specs.Board.{Board}
-use Rattle.search.specs.Problem.{problem}
+use Rattle.problem.specs.Problem.{problem}
 use Rattle.router.specs.Answers.{Route, Slices, slicesAfter, Routed}
-use Rattle.job.specs.declared.JobRefusal.{JobRefusal}
-use Rattle.job.specs.Refusals as job
-use Rattle.job.specs.declared.JobRefusal.the-variants.{Long, Uneven, Order, Stray, Side, Keepout, End, Number, Late}
+use Rattle.faults.specs.declared.JobRefusal.{JobRefusal}
+use Rattle.faults.specs.Refusals as job
+use Rattle.faults.specs.declared.JobRefusal.the-variants.{Long, Uneven, Order, Stray, Side, Keepout, End, Number, Late}
 use Rattle.capi.specs.declared.Found.{Found}
 use Rattle.capi.specs.Told.{toldRoute, RoutedForC}
 

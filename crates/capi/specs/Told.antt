@@ -8,9 +8,9 @@ use Rattle.board.specs.Handed.{Handed}
 use Rattle.length.specs.Floats.{inCells}
 use Rattle.length.specs.Answers as length-calls
 use Rattle.sight.specs.Answers as sight-call
-use Rattle.search.specs.Problem.{problem}
+use Rattle.problem.specs.Problem.{problem}
 use Rattle.router.specs.Answers.{Route, Slices, routeRow, slicesAfter}
-use Rattle.job.specs.Job as job-records
+use Rattle.faults.specs.Job as job-records
 use Rattle.job.specs.Answers as job-calls
 use Rattle.capi.specs.declared.Seen.{Seen}
 use Rattle.capi.specs.declared.Long.{Long}

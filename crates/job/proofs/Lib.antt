@@ -1,5 +1,3 @@
-pub mod Refusing
-pub mod Accepted
 pub mod Reading
 pub mod Above
 pub mod Determined

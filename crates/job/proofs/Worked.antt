@@ -7,8 +7,8 @@ use borrow.Author.Tests.{lt-ltb}
 use Rattle.laws.specs.Below.{some, howMany, firstWhere}
 use Rattle.board.specs.Handed.{Handed, refused, answer, judged}
 use Rattle.records.specs.Records.{byte, inOrder}
-use Rattle.job.specs.Job.{longestJob, usedBy, coordinate, inKeepout, cellsUpTo, boardCells, Net, nets, netRecord}
-use Rattle.job.specs.Refusals.{isUntidy, netBefore, recordRows, jobRows}
+use Rattle.faults.specs.Job.{longestJob, usedBy, coordinate, inKeepout, cellsUpTo, boardCells, Net, nets, netRecord}
+use Rattle.faults.specs.Refusals.{isUntidy, netBefore, recordRows, jobRows}
 use Rattle.job.specs.Answers.{Sides, noSides, boardRow, boardAfter, noNet, netRow}
 
 abbrev pub board2 : List ℕ

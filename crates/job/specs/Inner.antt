@@ -1,10 +1,13 @@
--- What the calls for the crates above may rely on. No public contract cites it, so nobody need believe this.
-use mathlib.Core.Path.{_≡_}
-use mathlib.Core.List.{List}
+-- What src/inner.rt finds. No public contract cites it, so nobody need believe this.
 use Prim.Native.Nat.{ℕ}
-use Rattle.board.specs.Handed.{passes}
-use Rattle.job.specs.Refusals.{jobRows}
+use mathlib.Core.Bool.{cond}
+use mathlib.Core.List.{List}
+use lib.Dec.{leb}
+use Rattle.faults.specs.declared.kinds.Record.{Record}
+use Rattle.faults.specs.declared.kinds.Record.the-variants.{Stray}
+use Rattle.faults.specs.Job.{nets, netRecord}
+use Rattle.faults.specs.Kinds.{recordAt}
 
--- no row refuses the job
-pub record Accepted (job : List ℕ) : Type 0 where
-  pub passed : jobRows job ≡ passes
+-- what the net with an index says
+unfoldable pub netSaid : List ℕ → (index : ℕ) → Record
+netSaid job index = cond (leb (nets job) index) Stray (recordAt job (netRecord job index))

@@ -2,11 +2,11 @@
 ghost use mathlib.Core.Path.{_≡_};
 ghost use Prim.Native.Nat.{_*_, _≤_, _<_};
 ghost use lib.ListN.{length};
-ghost use Rattle.job.specs.Job.{width, height, inside, inKeepout};
+ghost use Rattle.faults.specs.Job.{width, height, inside, inKeepout};
+ghost use Rattle.faults.specs.Inner.{Accepted};
 ghost use Rattle.job.specs.Cells.{Filled, Painted};
-ghost use Rattle.job.specs.Inner.{Accepted};
-use crate::kinds::Record;
-use crate::kinds::record_at;
+use faults::kinds::Record;
+use faults::kinds::record_at;
 use records::RECORD;
 
 // What a blocked cell's byte is.

@@ -1,14 +1,14 @@
 // Calls for the crates above, whose job has been accepted: each says what it requires.
 ghost use mathlib.Core.Path.{_≡_};
+ghost use Rattle.faults.specs.Inner.{Accepted};
 ghost use Rattle.job.specs.Answers.{handedNet, netRow};
-ghost use Rattle.job.specs.Inner.{Accepted};
-ghost use Rattle.job.specs.Kinds.{netSaid};
+ghost use Rattle.job.specs.Inner.{netSaid};
 use crate::NetAnswer;
-use crate::kinds::NET;
-use crate::kinds::Record;
-use crate::kinds::record_at;
+use faults::kinds::NET;
+use faults::kinds::Record;
+use faults::kinds::record_at;
 use records::RECORD;
-use records::byte_of;
+use records::inner::byte_of;
 
 // What the net with that index says, or nothing if there is none.
 fn find_net(job: &[u8], index: usize) -> Record

@@ -12,7 +12,7 @@ use crate::tree::NO_KEY;
 use crate::tree::enter;
 use crate::tree::renew;
 use board::Vertex;
-use table::units_between;
+use table::inner::units_between;
 
 // The vertices of a group.
 pub const GROUP: usize = 8;

@@ -2,13 +2,13 @@
 ghost use mathlib.Core.Path.{_≡_};
 ghost use Prim.Native.Nat.{_≤_};
 ghost use Rattle.board.specs.Limits.{largestSide};
-ghost use Rattle.job.specs.Inner.{Accepted};
+ghost use Rattle.faults.specs.Inner.{Accepted};
 ghost use Rattle.route.specs.Limits.{cellRoom, vertexRoom};
 use board::Vertex;
 use board::inner::column_of;
 use board::inner::row_of;
+use faults::LONGEST;
 use job::BoardAnswer;
-use job::LONGEST;
 use job::NetAnswer;
 use job::inner::net_at;
 use job::read_board;

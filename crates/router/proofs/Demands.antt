@@ -16,9 +16,9 @@ use Rattle.board.proofs.Rows.{leg-sound, leg-first, leg-within}
 use Rattle.length.proofs.Floats.{cells-exact}
 use Rattle.reach.specs.Turns.{at}
 use Rattle.theta.specs.Search.{Problem, search, path}
-use Rattle.theta.specs.Lent.{Searched}
-use Rattle.search.specs.Problem.{problem}
-use Rattle.search.proofs.Theorems.{board-complete, board-tested, board-route, board-measured, found-units, found-exact}
+use Rattle.theta.specs.Lent.{state, Searched}
+use Rattle.problem.specs.Problem.{problem}
+use Rattle.problem.proofs.Theorems.{board-complete, board-tested, board-route, board-measured, found-units, found-exact}
 use Rattle.router.specs.Answers.{Route, noRoute, found, none, Slices, workRow, searchRow, routeRow, searched, Routed}
 use Rattle.router.specs.Demands.{Exhaustive, Rightly}
 
@@ -46,25 +46,25 @@ module _ (b : Board) (sx sy gx gy : ℕ) (lent : Slices) (e : searched (routeRow
   leg-passes : legRows b sx sy gx gy ≡ passes
   leg-passes = both-pass (legRows b sx sy gx gy) (workRow (vertices b) lent) (both .0) .0
 
-  start-on : OnBoard b sx sy
+  pub start-on : OnBoard b sx sy
   start-on = leg-first b sx sy gx gy leg-passes
 
   sound : Sound b
   sound = leg-sound b sx sy gx gy leg-passes
 
-  row-searched : routeRow b sx sy gx gy lent ≡ searchRow (problem b sx sy gx gy) (length (lent .path))
+  pub row-searched : routeRow b sx sy gx gy lent ≡ searchRow (problem b sx sy gx gy) (length (lent .path))
   row-searched = both .1
 
 -- ---- what the search's row says
 
 -- the path's vertices, and what is handed back with a path and without
-abbrev count : Problem → ℕ
+abbrev pub count : Problem → ℕ
 count p = length (path p (search p .state))
 
-abbrev success : Problem → Handed Route
+abbrev pub success : Problem → Handed Route
 success p = found (at (search p .state .g) (p .goal)) (count p) (search p .state .expansions) (search p .state .tests)
 
-abbrev failure : Problem → Handed Route
+abbrev pub failure : Problem → Handed Route
 failure p = none (search p .state .expansions) (search p .state .tests)
 
 module _ (p : Problem) (lent : ℕ) where
@@ -78,7 +78,7 @@ module _ (p : Problem) (lent : ℕ) where
       go true false a c e = (a, ltb-false lent (count p) c, refl)
       go false l a c e = absurd (omega arith)
 
-  eight-none : searchRow p lent .number ≡ 8 → (search p .found ≡ false) × (searchRow p lent ≡ (failure p))
+  pub eight-none : searchRow p lent .number ≡ 8 → (search p .found ≡ false) × (searchRow p lent ≡ (failure p))
   unfolding searchRow
   eight-none e = go (search p .found) (ltb lent (count p)) refl e
     where
@@ -88,10 +88,20 @@ module _ (p : Problem) (lent : ℕ) where
       go true false a e = absurd (omega arith)
       go false l a e = (a, refl)
 
+  -- with any other number it has found a path
+  pub other-found : (searchRow p lent .number ≡ 8 → ⊥) → search p .found ≡ true
+  unfolding searchRow
+  other-found d = go (search p .found) refl d
+    where
+      go : (f : Bool) → search p .found ≡ f
+          → ((cond f (unless noRoute (row (ltb lent (count p)) 7 (count p)) (success p)) (failure p)) .number ≡ 8 → ⊥) → search p .found ≡ true
+      go true a d = a
+      go false a d = absurd (d refl)
+
 -- what the search leaves in slices of no length, to speak of a search that found a path
 left-by : (p : Problem) → search p .found ≡ true
-    → Searched p [] [] [] (search p .state .g ++ drop (p .size) []) (search p .state .parent ++ drop (p .size) []) (search p .state .mark ++ drop (p .size) [])
-    true (search p .state .expansions) (search p .state .tests)
+    → let s = search p .state in
+    Searched p (state [] [] [] 0 0) (state (s .g ++ drop (p .size) []) (s .parent ++ drop (p .size) []) (s .mark ++ drop (p .size) []) (s .expansions) (s .tests)) true
 left-by p f = record { found-is = sym f; expansions-is = refl; tests-is = refl; g-is = refl; parent-is = refl; mark-is = refl }
 
 -- ---- the demands
@@ -104,15 +114,16 @@ module _ (b : Board) (sx sy gx gy : ℕ) (lent : Slices) where
   p = problem b sx sy gx gy
 
   -- a path: the search has found one, and it fits
-  zero : h .number ≡ 0 → OnBoard b sx sy × (search p .found ≡ true) × (count p ≤ length (lent .path)) × (h ≡ success p)
-  zero e =
+  pub row-path : h .number ≡ 0 → OnBoard b sx sy × (search p .found ≡ true) × (count p ≤ length (lent .path)) × (h ≡ success p)
+  row-path e =
       let s : searched (h .number) ≡ true = rw e in
       let r = row-searched b sx sy gx gy lent s in
       let z = zero-found p (length (lent .path)) (ap (λ (x : Handed Route). x .number) (sym r) ∙ e) in
       (start-on b sx sy gx gy lent s, z .0, z .1, r ∙ z .2)
 
-  eight : h .number ≡ 8 → OnBoard b sx sy × (search p .found ≡ false) × (h ≡ failure p)
-  eight e =
+  -- none: the search has found none
+  pub row-none : h .number ≡ 8 → OnBoard b sx sy × (search p .found ≡ false) × (h ≡ failure p)
+  row-none e =
       let s : searched (h .number) ≡ true = rw e in
       let r = row-searched b sx sy gx gy lent s in
       let z = eight-none p (length (lent .path)) (ap (λ (x : Handed Route). x .number) (sym r) ∙ e) in
@@ -121,25 +132,25 @@ module _ (b : Board) (sx sy gx gy : ℕ) (lent : Slices) where
   row-exhaustive : Exhaustive b sx sy gx gy h
   unfolding problem
   row-exhaustive = record {
-    path-joined = λ e. let z = zero e in board-complete b sx sy gx gy (z .0) .found-reach (z .1);
-    none-apart = λ e j. let z = eight e in true≢false (sym (board-complete b sx sy gx gy (z .0) .reach-found j) ∙ z .1);
-    none-expansions = λ e. let z = eight e in rw (z .2) (board-complete b sx sy gx gy (z .0) .none-expansions (z .1));
-    none-tests = λ e. let z = eight e in rw (z .2) (board-tested b sx sy gx gy (z .0) .none-tests (z .1));
-    path-expansions = λ e. let z = zero e in rw (z .3) (board-complete b sx sy gx gy (z .0) .found-expansions (z .1));
-    path-tests = λ e. let z = zero e in rw (z .3) (board-tested b sx sy gx gy (z .0) .found-tests (z .1));
+    path-joined = λ e. let z = row-path e in board-complete b sx sy gx gy (z .0) .found-reach (z .1);
+    none-apart = λ e j. let z = row-none e in true≢false (sym (board-complete b sx sy gx gy (z .0) .reach-found j) ∙ z .1);
+    none-expansions = λ e. let z = row-none e in rw (z .2) (board-complete b sx sy gx gy (z .0) .none-expansions (z .1));
+    none-tests = λ e. let z = row-none e in rw (z .2) (board-tested b sx sy gx gy (z .0) .none-tests (z .1));
+    path-expansions = λ e. let z = row-path e in rw (z .3) (board-complete b sx sy gx gy (z .0) .found-expansions (z .1));
+    path-tests = λ e. let z = row-path e in rw (z .3) (board-tested b sx sy gx gy (z .0) .found-tests (z .1));
   }
 
   -- an f64 holds the units of a path
   zero-units : h .number ≡ 0 → at (search p .state .g) (number b gx gy) < 2 ^ 53
   zero-units e =
-      let z = zero e in
+      let z = row-path e in
       let F = left-by p (z .1) in
       subst (λ (n : ℕ). n < 2 ^ 53) (found-units (z .0) gx gy F) (found-exact (z .0) gx gy F (sound b sx sy gx gy lent (rw e)))
 
   row-rightly : (path₀ path′ : List ℕ) → h .number ≡ 0 → path′ ≡ path p (search p .state) ++ drop (count p) path₀ → Rightly b sx sy gx gy h path′
   unfolding problem
   row-rightly path₀ path′ e w =
-      let z = zero e in
+      let z = row-path e in
       let front : take (count p) path′ ≡ path p (search p .state) = rw w (take-append-seam (path p (search p .state)) (drop (count p) path₀)) in
       rw (z .3) (record {
         count = rw (w, length-append) (omega arith);

@@ -8,7 +8,7 @@ use Rattle.board.specs.declared.Refusal.the-variants.{Side, Count, Byte, First,
 use Rattle.board.specs.Board.{Board}
 use Rattle.board.specs.Handed.{Handed}
 use Rattle.board.proofs.Determined.{refusalOf}
-use Rattle.search.specs.Problem.{problem}
+use Rattle.problem.specs.Problem.{problem}
 use Rattle.router.specs.declared.Answer.{Answer}
 use Rattle.router.specs.declared.Answer.the-variants.{Found, NoPath, Refused, Work, Short}
 use Rattle.router.specs.Answers.{Route, handedRoute, Slices, slicesAfter, Routed}

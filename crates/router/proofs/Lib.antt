@@ -1,4 +1,5 @@
 pub mod Inside
 pub mod Routing
 pub mod Determined
+pub mod Written
 pub mod Demands

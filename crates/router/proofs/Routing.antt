@@ -16,10 +16,10 @@ use Rattle.board.specs.Board.{Board, vertices}
 use Rattle.board.specs.Handed.{Verdict, passes, refused, row, andThen, Handed, unless, judged, legRows, refusalRow, verdict}
 use Rattle.board.proofs.Verdicts.{refuses-on, refused-row, refusal-handed}
 use Rattle.reach.specs.Turns.{at}
-use Rattle.theta.specs.Search.{Problem, search, path}
+use Rattle.theta.specs.Search.{Problem, State, search, path}
 use Rattle.theta.specs.Demands.{Work}
 use Rattle.theta.specs.Lent.{Searched}
-use Rattle.search.specs.Problem.{problem}
+use Rattle.problem.specs.Problem.{problem}
 use Rattle.router.specs.Answers.{Route, noRoute, none, found, searchRow, Slices, slices, workRow, routeRow, searched, written, slicesAfter, Routed}
 use Rattle.router.specs.Inside.{pathOf, PathGiven, Ran}
 
@@ -39,37 +39,38 @@ searched-row p lent = go (search p .found) (ltb lent (length (path p (search p .
     go false l = refl
 
 -- a search that is known to have found a path
-pub as-found : {p : Problem} {g parents marks g′ parents′ marks′ : List ℕ} {f : Bool} {e t : ℕ} → f ≡ true
-    → Searched p g parents marks g′ parents′ marks′ f e t → Searched p g parents marks g′ parents′ marks′ true e t
+pub as-found : {p : Problem} {before after : State} {f : Bool} → f ≡ true → Searched p before after f → Searched p before after true
 as-found y S = rw y at S
 
-module _ {p : Problem} (W : Work p (search p .state)) {g parents marks g′ parents′ marks′ : List ℕ} {f : Bool} {e t : ℕ}
-    (S : Searched p g parents marks g′ parents′ marks′ f e t) where
+module _ {p : Problem} (W : Work p (search p .state)) {before after : State} {f : Bool} (S : Searched p before after f) where
   -- the work slices, as the definition's lists and what lies beyond them
-  g-is : g′ ≡ written true (search p .state .g) g
-  g-is = S .g-is ∙ ap (λ (n : ℕ). search p .state .g ++ drop n g) (sym (W .g-size))
+  g-is : after .g ≡ written true (search p .state .g) (before .g)
+  g-is = S .g-is ∙ ap (λ (n : ℕ). search p .state .g ++ drop n (before .g)) (sym (W .g-size))
 
-  parents-is : parents′ ≡ written true (search p .state .parent) parents
-  parents-is = S .parent-is ∙ ap (λ (n : ℕ). search p .state .parent ++ drop n parents) (sym (W .parent-size))
+  parents-is : after .parent ≡ written true (search p .state .parent) (before .parent)
+  parents-is = S .parent-is ∙ ap (λ (n : ℕ). search p .state .parent ++ drop n (before .parent)) (sym (W .parent-size))
 
-  marks-is : marks′ ≡ written true (search p .state .mark) marks
-  marks-is = S .mark-is ∙ ap (λ (n : ℕ). search p .state .mark ++ drop n marks) (sym (W .mark-size))
+  marks-is : after .mark ≡ written true (search p .state .mark) (before .mark)
+  marks-is = S .mark-is ∙ ap (λ (n : ℕ). search p .state .mark ++ drop n (before .mark)) (sym (W .mark-size))
 
   -- with the path slice as the number says, the slices are as the definition leaves them
   all-written : (number : ℕ) (path₀ : List ℕ) {path′ : List ℕ} → searched number ≡ true → path′ ≡ written (eqb number 0) (path p (search p .state)) path₀
-      → slices g′ parents′ marks′ path′ ≡ slicesAfter p number (slices g parents marks path₀)
+      → slices (after .g) (after .parent) (after .mark) path′ ≡ slicesAfter p number (slices (before .g) (before .parent) (before .mark) path₀)
   all-written number path₀ y w = rw (y, g-is, parents-is, marks-is, w)
 
-  pub g-room : p .size ≤ length g′
+  pub g-room : p .size ≤ length (after .g)
   g-room = rw (S .g-is, length-append) (omega (arith, W .g-size))
 
-  pub ran-none : (path₀ : List ℕ) → f ≡ false → Ran p (slices g parents marks path₀) (slices g′ parents′ marks′ path₀) (none e t)
+  pub ran-none : (path₀ : List ℕ) → f ≡ false
+      → Ran p (slices (before .g) (before .parent) (before .mark) path₀) (slices (after .g) (after .parent) (after .mark) path₀)
+      (none (after .expansions) (after .tests))
   unfolding searchRow
   ran-none path₀ n = record { row-is = rw (S .expansions-is, S .tests-is, sym (S .found-is) ∙ n); after-is = all-written 8 path₀ refl refl }
 
-  pub ran-path : {start goal units : ℕ} {path₀ path′ : List ℕ} {h : Handed Route} → f ≡ true → PathGiven start goal units e t parents′ path₀ path′ h
-      → pathOf start goal parents′ ≡ path p (search p .state) → units ≡ at (search p .state .g) (p .goal)
-      → Ran p (slices g parents marks path₀) (slices g′ parents′ marks′ path′) h
+  pub ran-path : {start goal units : ℕ} {path₀ path′ : List ℕ} {h : Handed Route} → f ≡ true
+      → PathGiven start goal units (after .expansions) (after .tests) (after .parent) path₀ path′ h
+      → pathOf start goal (after .parent) ≡ path p (search p .state) → units ≡ at (search p .state .g) (p .goal)
+      → Ran p (slices (before .g) (before .parent) (before .mark) path₀) (slices (after .g) (after .parent) (after .mark) path′) h
   unfolding searchRow
   ran-path {units = units} {path₀ = path₀} {h = h} y T w u =
       let r : h ≡ searchRow p (length path₀) = T .row-is ∙ rw (w, u, S .expansions-is, S .tests-is, sym (S .found-is) ∙ y) in
@@ -81,7 +82,7 @@ module _ {p : Problem} (W : Work p (search p .state)) {g parents marks g′ pare
     where
       go : (l : Bool) →
           let q = path p (search p .state) in
-          written (not l) q path₀ ≡ written (eqb (unless noRoute (row l 7 (length q)) (found units (length q) e t) .number) 0) q path₀
+          written (not l) q path₀ ≡ written (eqb (unless noRoute (row l 7 (length q)) (found units (length q) (after .expansions) (after .tests)) .number) 0) q path₀
       go true = refl
       go false = refl
 

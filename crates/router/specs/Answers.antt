@@ -11,7 +11,7 @@ use Rattle.board.specs.Handed.{Verdict, refused, row, andThen, Handed, answer, 
 use Rattle.length.specs.Floats.{inCells}
 use Rattle.reach.specs.Turns.{at}
 use Rattle.theta.specs.Search.{Problem, search, path}
-use Rattle.search.specs.Problem.{problem}
+use Rattle.problem.specs.Problem.{problem}
 use Rattle.router.specs.declared.Answer.{Answer}
 use Rattle.router.specs.declared.Answer.the-variants.{Found, NoPath, Refused, Work, Short}
 

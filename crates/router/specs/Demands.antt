@@ -12,7 +12,7 @@ use Rattle.sight.specs.Neighbours.{visible}
 use Rattle.reach.specs.Number.{Number, Number²}
 use Rattle.reach.specs.Reach.{Reach, NearPair}
 use Rattle.theta.specs.Demands.{IsRoute}
-use Rattle.search.specs.Problem.{problem, RoundedDown}
+use Rattle.problem.specs.Problem.{problem, RoundedDown}
 use Rattle.router.specs.Answers.{Route}
 
 -- single moves between visible neighbours join the start to v

@@ -5,7 +5,7 @@ ghost use lib.ListN.{length};
 ghost use Rattle.board.specs.Board.{board};
 ghost use Rattle.theta.specs.Back.{Traced};
 ghost use Rattle.router.specs.Answers.{handedRoute, slices, Routed};
-ghost use Rattle.search.specs.Problem.{problem};
+ghost use Rattle.problem.specs.Problem.{problem};
 ghost use Rattle.router.specs.Inside.{PathGiven, Ran, Passed};
 use board::Checked;
 use board::Refusal;
@@ -13,10 +13,10 @@ use board::Vertex;
 use board::check_leg;
 use board::inner::number_of;
 use length::inner::exact_cells;
+use path::inner::count_path;
+use path::inner::write_path;
 use search::Outcome;
-use search::inner::count_path;
 use search::inner::find;
-use search::inner::write_path;
 
 // A route, or why there is none: document 01's 0, 8, and 1 to 7.
 pub enum Answer {

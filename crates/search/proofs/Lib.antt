@@ -1,4 +1,1 @@
-pub mod Sizes
-pub mod Fair
-pub mod Rounding
-pub mod Theorems
+pub mod Finding

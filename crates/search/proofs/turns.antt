@@ -1,1 +1,1 @@
-pub mod Finding
+pub mod Filled

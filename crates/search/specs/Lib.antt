@@ -1,4 +1,1 @@
-pub mod Problem
-pub mod Request
-pub mod Round
 pub mod Turns

@@ -1,18 +1,13 @@
 // Calls for the crates above, which have checked their board: each says what it requires.
-ghost use mathlib.Core.Path.{_≡_};
-ghost use mathlib.Core.List.{_++_};
-ghost use Prim.Native.Nat.{_+_, _*_, _≤_};
-ghost use lib.ListN.{length, drop};
+ghost use Prim.Native.Nat.{_≤_};
+ghost use lib.ListN.{length};
 ghost use Rattle.board.specs.Board.{board, vertices};
 ghost use Rattle.board.specs.Inner.{Sound, OnBoard};
 ghost use Rattle.table.specs.Lengths.{smallSide, middleSide, Known};
-ghost use Rattle.theta.specs.Search.{trail};
-ghost use Rattle.theta.specs.Lent.{Searched};
-ghost use Rattle.theta.specs.Back.{Traced};
-ghost use Rattle.search.specs.Problem.{problem};
-ghost use Rattle.search.specs.Request.{asked, sizeOf, diagonal, Asked};
+ghost use Rattle.theta.specs.Lent.{state, Searched};
+ghost use Rattle.problem.specs.Problem.{problem};
+ghost use Rattle.round.specs.Request.{asked, sizeOf, diagonal, Asked};
 use crate::Outcome;
-use crate::Request;
 use crate::turns::begin;
 use crate::turns::run;
 use board::LINE;
@@ -22,6 +17,7 @@ use board::inner::number_of;
 use open::list::GROUP;
 use open::list::open_vertex;
 use open::tree::NO_KEY;
+use round::Request;
 use table::MIDDLE_SIDE;
 use table::SMALL_SIDE;
 use table::large_lengths;
@@ -44,7 +40,7 @@ fn find_by(
     requires { ⌜ Asked (now cells) request ⌝ }
     requires { ⌜ (sizeOf request ≤ length (now g)) × (sizeOf request ≤ length (now parents)) × (sizeOf request ≤ length (now marks)) ⌝ }
     requires { ⌜ Known (diagonal request) (now table) ⌝ }
-    ensures { λ r. ⌜ Searched (asked (now (cells .entry)) request) (now (g .entry)) (now (parents .entry)) (now (marks .entry)) (now (g .exit)) (now (parents .exit)) (now (marks .exit)) (r .found) (r .expansions) (r .tests) ⌝ }
+    ensures { λ r. ⌜ Searched (asked (now (cells .entry)) request) (state (now (g .entry)) (now (parents .entry)) (now (marks .entry)) 0 0) (state (now (g .exit)) (now (parents .exit)) (now (marks .exit)) (r .expansions) (r .tests)) (r .found) ⌝ }
 {
     let mut leads = [0 as Vertex; NODES];
     let mut keys = [NO_KEY; NODES];
@@ -94,7 +90,7 @@ fn find_small(
     requires { ⌜ Asked (now cells) request ⌝ }
     requires { ⌜ (sizeOf request ≤ length (now g)) × (sizeOf request ≤ length (now parents)) × (sizeOf request ≤ length (now marks)) ⌝ }
     requires { ⌜ (request .width ≤ smallSide) × (request .height ≤ smallSide) ⌝ }
-    ensures { λ r. ⌜ Searched (asked (now (cells .entry)) request) (now (g .entry)) (now (parents .entry)) (now (marks .entry)) (now (g .exit)) (now (parents .exit)) (now (marks .exit)) (r .found) (r .expansions) (r .tests) ⌝ }
+    ensures { λ r. ⌜ Searched (asked (now (cells .entry)) request) (state (now (g .entry)) (now (parents .entry)) (now (marks .entry)) 0 0) (state (now (g .exit)) (now (parents .exit)) (now (marks .exit)) (r .expansions) (r .tests)) (r .found) ⌝ }
 {
     let table = small_lengths();
     find_by(cells, request, g, parents, marks, &table)
@@ -110,7 +106,7 @@ fn find_middle(
     requires { ⌜ Asked (now cells) request ⌝ }
     requires { ⌜ (sizeOf request ≤ length (now g)) × (sizeOf request ≤ length (now parents)) × (sizeOf request ≤ length (now marks)) ⌝ }
     requires { ⌜ (request .width ≤ middleSide) × (request .height ≤ middleSide) ⌝ }
-    ensures { λ r. ⌜ Searched (asked (now (cells .entry)) request) (now (g .entry)) (now (parents .entry)) (now (marks .entry)) (now (g .exit)) (now (parents .exit)) (now (marks .exit)) (r .found) (r .expansions) (r .tests) ⌝ }
+    ensures { λ r. ⌜ Searched (asked (now (cells .entry)) request) (state (now (g .entry)) (now (parents .entry)) (now (marks .entry)) 0 0) (state (now (g .exit)) (now (parents .exit)) (now (marks .exit)) (r .expansions) (r .tests)) (r .found) ⌝ }
 {
     let table = middle_lengths();
     find_by(cells, request, g, parents, marks, &table)
@@ -125,7 +121,7 @@ fn find_large(
 ) -> Outcome
     requires { ⌜ Asked (now cells) request ⌝ }
     requires { ⌜ (sizeOf request ≤ length (now g)) × (sizeOf request ≤ length (now parents)) × (sizeOf request ≤ length (now marks)) ⌝ }
-    ensures { λ r. ⌜ Searched (asked (now (cells .entry)) request) (now (g .entry)) (now (parents .entry)) (now (marks .entry)) (now (g .exit)) (now (parents .exit)) (now (marks .exit)) (r .found) (r .expansions) (r .tests) ⌝ }
+    ensures { λ r. ⌜ Searched (asked (now (cells .entry)) request) (state (now (g .entry)) (now (parents .entry)) (now (marks .entry)) 0 0) (state (now (g .exit)) (now (parents .exit)) (now (marks .exit)) (r .expansions) (r .tests)) (r .found) ⌝ }
 {
     let table = large_lengths();
     find_by(cells, request, g, parents, marks, &table)
@@ -147,7 +143,7 @@ pub fn find(
     requires { ⌜ Sound (board (now cells) width height) ⌝ }
     requires { ⌜ OnBoard (board (now cells) width height) sx sy × OnBoard (board (now cells) width height) gx gy ⌝ }
     requires { ⌜ (vertices (board (now cells) width height) ≤ length (now g)) × (vertices (board (now cells) width height) ≤ length (now parents)) × (vertices (board (now cells) width height) ≤ length (now marks)) ⌝ }
-    ensures { λ r. ⌜ Searched (problem (board (now (cells .entry)) width height) sx sy gx gy) (now (g .entry)) (now (parents .entry)) (now (marks .entry)) (now (g .exit)) (now (parents .exit)) (now (marks .exit)) (r .found) (r .expansions) (r .tests) ⌝ }
+    ensures { λ r. ⌜ Searched (problem (board (now (cells .entry)) width height) sx sy gx gy) (state (now (g .entry)) (now (parents .entry)) (now (marks .entry)) 0 0) (state (now (g .exit)) (now (parents .exit)) (now (marks .exit)) (r .expansions) (r .tests)) (r .found) ⌝ }
 {
     let request = Request {
         width,
@@ -164,40 +160,4 @@ pub fn find(
         return find_middle(cells, request, g, parents, marks);
     }
     find_large(cells, request, g, parents, marks)
-}
-
-// How many vertices the path to the goal has, by the parents.
-pub fn count_path(start: Vertex, goal: Vertex, parents: &[Vertex]) -> usize
-    requires { ⌜ Traced (length (now parents)) start (now parents) goal ⌝ }
-    ensures { λ r. ⌜ r ≡ length (trail start (now (parents .entry)) (length (now (parents .entry))) goal) ⌝ }
-{
-    let mut v = goal;
-    let mut count = 1;
-    while v != start {
-        v = parents[v as usize];
-        count += 1;
-    }
-    count
-}
-
-// Writes the path to the goal, of that many vertices, start first; what lies beyond it is kept.
-pub fn write_path(
-    start: Vertex,
-    goal: Vertex,
-    count: usize,
-    parents: &[Vertex],
-    path: &mut [Vertex],
-)
-    requires { ⌜ Traced (length (now parents)) start (now parents) goal ⌝ }
-    requires { ⌜ (count ≡ length (trail start (now parents) (length (now parents)) goal)) × (count ≤ length (now path)) ⌝ }
-    ensures { λ r. ⌜ now (path .exit) ≡ trail start (now (parents .entry)) (length (now (parents .entry))) goal ++ drop count (now (path .entry)) ⌝ }
-{
-    let mut v = goal;
-    let mut i = count;
-    while 1 < i {
-        i -= 1;
-        path[i] = v;
-        v = parents[v as usize];
-    }
-    path[0] = start;
 }

@@ -2,20 +2,17 @@
 ghost use mathlib.Core.Path.{_≡_};
 ghost use mathlib.Core.List.{_++_};
 ghost use Prim.Native.Nat.{suc, _^_, _≤_, _<_};
-ghost use lib.ListN.{length, set, replicate, drop};
+ghost use lib.ListN.{length, replicate, drop};
 ghost use Rattle.board.specs.Limits.{largestSide, mostVertices};
 ghost use Rattle.board.specs.Board.{columnOf, rowOf};
 ghost use Rattle.reach.specs.Turns.{turns};
 ghost use Rattle.table.specs.Lengths.{Known};
 ghost use Rattle.theta.specs.Search.{basic};
-ghost use Rattle.search.specs.Request.{asked, sizeOf, diagonal, Asked};
-ghost use Rattle.theta.specs.Lent.{Begun, Begins, state, Rounded};
+ghost use Rattle.round.specs.Request.{asked, sizeOf, diagonal, Asked};
+ghost use Rattle.theta.specs.Lent.{state, marked, Begins, Rounded};
 ghost use Rattle.search.specs.Turns.{Cleared, Taking};
-ghost use Rattle.search.specs.Round.{ListedFor};
+ghost use Rattle.round.specs.Round.{ListedFor};
 use crate::Outcome;
-use crate::Request;
-use crate::Spot;
-use crate::round::round;
 use board::Vertex;
 use board::inner::column_of;
 use board::inner::number_of;
@@ -23,6 +20,9 @@ use board::inner::row_of;
 use open::list::close_vertex;
 use open::tree::NO_KEY;
 use open::tree::first;
+use round::Request;
+use round::Spot;
+use round::inner::round;
 
 // Zeros for the first n of each; what lies beyond is kept. A loop for each slice, since slices may overlap as far as the compiler knows.
 fn clear_g(n: usize, g: &mut [u64])
@@ -62,7 +62,7 @@ fn clear_marks(n: usize, marks: &mut [u8])
 pub fn begin(n: usize, start: Vertex, g: &mut [u64], parents: &mut [Vertex], marks: &mut [u8])
     requires { ⌜ (start < n) × (n ≤ mostVertices) ⌝ }
     requires { ⌜ (n ≤ length (now g)) × (n ≤ length (now parents)) × (n ≤ length (now marks)) ⌝ }
-    ensures { λ r. ⌜ Cleared n start (now (g .entry)) (now (parents .entry)) (now (marks .entry)) (now (g .exit)) (now (parents .exit)) (now (marks .exit)) ⌝ }
+    ensures { λ r. ⌜ Cleared n start (state (now (g .entry)) (now (parents .entry)) (now (marks .entry)) 0 0) (state (now (g .exit)) (now (parents .exit)) (now (marks .exit)) 0 0) ⌝ }
 {
     clear_g(n, g);
     clear_parents(n, parents);
@@ -97,11 +97,11 @@ fn expand(
     table: &[u32],
 ) -> u64
     requires { ⌜ Asked (now cells) request ⌝ }
-    requires { ⌜ Taking (now cells) request v (now g) (now parents) (now marks) ⌝ }
+    requires { ⌜ Taking (now cells) request v (state (now g) (now parents) (now marks) 0 tests) ⌝ }
     requires { ⌜ tests < 2 ^ 62 ⌝ }
     requires { ⌜ ListedFor request (now g) (now marks) (now leads) (now keys) ⌝ }
     requires { ⌜ Known (diagonal request) (now table) ⌝ }
-    ensures { λ r. ⌜ Rounded (asked (now (cells .entry)) request) v (sizeOf request) (now (g .entry)) (now (parents .entry)) (set (now (marks .entry)) v 2) tests (now (g .exit)) (now (parents .exit)) (now (marks .exit)) r ⌝ }
+    ensures { λ r. ⌜ Rounded (asked (now (cells .entry)) request) v (sizeOf request) (marked v (state (now (g .entry)) (now (parents .entry)) (now (marks .entry)) 0 tests)) (state (now (g .exit)) (now (parents .exit)) (now (marks .exit)) 0 r) ⌝ }
     ensures { λ r. ⌜ ListedFor request (now (g .exit)) (now (marks .exit)) (now (leads .exit)) (now (keys .exit)) ⌝ }
 {
     let u = spot_of(request.width, v as Vertex);

@@ -9,7 +9,7 @@ use lib.Dec.{ltb, leb, eqb}
 use Rattle.laws.specs.Below.{every}
 use Rattle.laws.proofs.Below.{every-at, every-of}
 use Rattle.laws.proofs.Tests.{and-both, and-left, and-right, not-both, same-test, not-of}
-use Rattle.board.specs.Board.{Board, blocked}
+use Rattle.board.specs.Board.{Board, isCell, blocked}
 use Rattle.sight.specs.declared.Stop.the-variants.{Cell}
 use Rattle.sight.specs.Sight.{crossed, rowWall, columnWall, between, cellsFree, edgesOpen, sees}
 use Rattle.sight.specs.Leg.{far, cellAt, vertexAt}
@@ -54,13 +54,24 @@ module _ (b : Board) (ax ay bx by : ℕ) where
 
 -- ---- along one axis: the edges between p and q, and the steps from p
 
-between-parts : (p q : ℕ) (wall : ℕ → Bool) (k : ℕ) → (between p q k && wall k) ≡ true → (min p q ≤ k) × (k < max p q) × (wall k ≡ true)
+pub between-out : (p q k : ℕ) → between p q k ≡ true → (min p q ≤ k) × (k < max p q)
 unfolding between
-between-parts p q wall k h =
+between-out p q k h =
     let s : Bool = leb (min p q) k in
     let t : Bool = ltb k (max p q) in
-    let d = and-left (s && t) (wall k) h in
-    (leb-true (min p q) k (and-left s t d), ltb-true k (max p q) (and-right s t d), and-right (s && t) (wall k) h)
+    (leb-true (min p q) k (and-left s t h), ltb-true k (max p q) (and-right s t h))
+
+-- the unit edge at a cell of the leg is between its ends
+pub between-in : (p q u : ℕ) → u < far p q → between p q (cellAt p q u) ≡ true
+unfolding between
+between-in p q u l =
+    let s = axis-spans p q u l in
+    and-both (le-leb (min p q) (cellAt p q u) (omega (arith, s .0))) (lt-ltb (cellAt p q u) (max p q) (s .1))
+
+between-parts : (p q : ℕ) (wall : ℕ → Bool) (k : ℕ) → (between p q k && wall k) ≡ true → (min p q ≤ k) × (k < max p q) × (wall k ≡ true)
+between-parts p q wall k h =
+    let d = between-out p q k (and-left (between p q k) (wall k) h) in
+    (d .0, d .1, and-right (between p q k) (wall k) h)
 
 -- no edge lies between equal ends
 no-edge : (p q size : ℕ) (wall : ℕ → Bool) → p ≡ q → every size (λ (k : ℕ). not (between p q k && wall k)) ≡ true
@@ -71,13 +82,11 @@ no-edge p q size wall e =
 
 module _ (p q size : ℕ) (wall : ℕ → Bool) (hp : p ≤ size) (hq : q ≤ size) where
   steps-every : every size (λ (k : ℕ). not (between p q k && wall k)) ≡ every (far p q) (λ (u : ℕ). not (wall (cellAt p q u)))
-  unfolding between
   steps-every =
       same-test _ _
       (λ h. every-of _ (far p q) (λ u l. not-of (wall (cellAt p q u)) (λ w.
-      let s = axis-spans p q u l in
       not-both (between p q (cellAt p q u)) (wall (cellAt p q u)) (every-at _ size h (cellAt p q u) (axis-on p q u l size hp hq))
-      (and-both (le-leb (min p q) (cellAt p q u) (omega (arith, s .0))) (lt-ltb (cellAt p q u) (max p q) (s .1))) w)))
+      (between-in p q u l) w)))
       (λ h. every-of _ size (λ k l. not-of (between p q k && wall k) (λ w.
       let d = between-parts p q wall k w in
       let o = axis-of p q k (omega (arith, d .0)) (d .1) in
@@ -87,14 +96,25 @@ module _ (p q size : ℕ) (wall : ℕ → Bool) (hp : p ≤ size) (hq : q ≤ si
 -- ---- the leg
 
 -- a horizontal or vertical leg crosses no cell
+pub axis-uncrossed : (ax ay bx by i j : ℕ) → (ax ≡ bx) ⊎ (ay ≡ by) → crossed ax ay bx by i j ≡ true → ⊥
+axis-uncrossed ax ay bx by i j z x =
+    let o = cross-placed ax ay bx by i j x in
+    ⊎-elim (λ (e : ax ≡ bx). omega (arith, o .0 .1)) (λ (e : ay ≡ by). omega (arith, o .1 .1)) z
+
 axis-free : (b : Board) (ax ay bx by : ℕ) → (ax ≡ bx) ⊎ (ay ≡ by) → cellsFree b ax ay bx by ≡ true
 unfolding cellsFree
 axis-free b ax ay bx by z =
     every-of _ (b .height) (λ j hj. every-of _ (b .width) (λ i hi. not-of (crossed ax ay bx by i j && blocked b i j) (λ q.
-    let o = cross-placed ax ay bx by i j (and-left (crossed ax ay bx by i j) (blocked b i j) q) in
-    ⊎-elim (λ (e : ax ≡ bx). omega (arith, o .0 .1)) (λ (e : ay ≡ by). omega (arith, o .1 .1)) z)))
+    axis-uncrossed ax ay bx by i j z (and-left (crossed ax ay bx by i j) (blocked b i j) q))))
 
 module _ (b : Board) (ax ay bx by : ℕ) (on : EndsOn b ax ay bx by) where
+  -- it crosses no cell outside the board
+  pub crossed-on-board : (i j : ℕ) → crossed ax ay bx by i j ≡ true → isCell b i j ≡ true
+  crossed-on-board i j x =
+      let ((u, hu, ei), (v, hv, ej)) = cross-placed ax ay bx by i j x in
+      and-both (lt-ltb i (b .width) (rw ei at (axis-on ax bx u hu (b .width) (on .first .x-on) (on .second .x-on))))
+      (lt-ltb j (b .height) (rw ej at (axis-on ay by v hv (b .height) (on .first .y-on) (on .second .y-on))))
+
   cells-same : cellsFree b ax ay bx by ≡ isClear (cellsStop b ax ay bx by)
   unfolding cellsFree
   cells-same =

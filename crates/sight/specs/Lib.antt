@@ -3,6 +3,7 @@ pub mod Neighbours
 pub mod Answers
 pub mod Leg
 pub mod Stops
+pub mod Nearer
 pub mod Walk
 pub mod Edges
 pub mod Inner

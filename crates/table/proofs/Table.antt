@@ -10,6 +10,7 @@ use lib.Dec.{T, leb, ltb, leb→le, ltb→lt}
 use lib.ListN.{length, getD}
 use borrow.Author.Tests.{leb-false, le-leb}
 use Rattle.laws.proofs.Tests.{order}
+use Rattle.board.specs.Limits.{largestSide}
 use Rattle.length.specs.Legs.{step}
 use Rattle.length.specs.Units.{square, unitsOf}
 use Rattle.length.proofs.Root.{below}
@@ -75,8 +76,11 @@ known-less K s h = record { room = omega (arith, K .room); right = K .right }
 pub known-any : {l : List ℕ} → Known squares l → (s : ℕ) → Known s l
 known-any K s = record { room = omega (arith, K .room); right = K .right }
 
--- a leg between vertices of a board
-pub known-leg : {width height : ℕ} {l : List ℕ} → Known (width * width + height * height) l → {ax ay bx by : ℕ} → ax ≤ width → ay ≤ height → bx ≤ width
-    → by ≤ height → Known (square (step ax bx) (step ay by)) l
-known-leg {width} {height} K {ax} {ay} {bx} {by} p q r s =
-    known-less K (square (step ax bx) (step ay by)) (omega (arith, square-most ax bx width p r, square-most ay by height q s))
+-- a leg between vertices of a board: what `units_between` requires
+pub known-leg : {width height : ℕ} {l : List ℕ} {ax ay bx by : ℕ} → Known (width * width + height * height) l
+    → (width ≤ largestSide) × (height ≤ largestSide) → (ax ≤ width) × (ay ≤ height) × (bx ≤ width) × (by ≤ height)
+    → ((ax ≤ largestSide) × (ay ≤ largestSide) × (bx ≤ largestSide) × (by ≤ largestSide)) × Known (square (step ax bx) (step ay by)) l
+known-leg {width} {height} {l} {ax} {ay} {bx} {by} K sides (p, q, r, s) = (
+  omega (arith, sides),
+  known-less K (square (step ax bx) (step ay by)) (omega (arith, square-most ax bx width p r, square-most ay by height q s)),
+)

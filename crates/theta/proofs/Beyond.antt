@@ -142,13 +142,13 @@ pub path-beyond : {p : Problem} → Fair p → p .goal < p .size → (ps : List 
 path-beyond {p} F l ps = trail-beyond (search-keep F (tidy-kept F) (tidy-start F (begins-initial F))) ps (p .size) (p .goal) l
 
 -- the whole that the loop's invariant speaks of is the search
-pub searched : {p : Problem} → Fair p → (g parent mark : List ℕ) {found : Bool} {s : State}
-    → turns (basic p) (suc (p .size)) (beyond (initial p) (drop (p .size) g) (drop (p .size) parent) (drop (p .size) mark))
-    ≡ record { found = found; state = s }
-    → Searched p g parent mark (s .g) (s .parent) (s .mark) found (s .expansions) (s .tests)
+pub searched : {p : Problem} → Fair p → (before : State) {found : Bool} {after : State}
+    → turns (basic p) (suc (p .size)) (beyond (initial p) (drop (p .size) (before .g)) (drop (p .size) (before .parent)) (drop (p .size) (before .mark)))
+    ≡ record { found = found; state = after }
+    → Searched p before after found
 unfolding beyond
-searched {p} F g parent mark e =
-    let q = sym e ∙ search-beyond (drop (p .size) g) (drop (p .size) parent) (drop (p .size) mark) F in
+searched {p} F before e =
+    let q = sym e ∙ search-beyond (drop (p .size) (before .g)) (drop (p .size) (before .parent)) (drop (p .size) (before .mark)) F in
     record {
       found-is = ap (λ (r : Result State). r .found) q;
       expansions-is = ap (λ (r : Result State). r .state .expansions) q;

@@ -1,8 +1,14 @@
--- Demand 3: the search finds a path exactly if there is one, and its counts are what they should be. Assumes nothing.
-use Prim.Native.Nat.{suc}
+-- Demand 3: the search finds a path exactly if there is one, and its counts are what they should be; and what is marked where it finds
+-- none. Assumes nothing.
+use mathlib.Core.Path.{_≡_, refl, sym, _∙_}
+use mathlib.Core.Logic.{_↔_, _≢_}
+use mathlib.Core.Bool.{true, false, false≢true}
+use Prim.Native.Nat.{ℕ, suc, _<_}
+use borrow.Author.Tests.{eqb-true}
 use Rattle.reach.specs.Complete.{Complete, PairsTested}
-use Rattle.reach.specs.Turns.{doneIn}
-use Rattle.reach.proofs.Taken.{Tested}
+use Rattle.reach.specs.Reach.{Reach}
+use Rattle.reach.specs.Turns.{at, seenIn, doneIn}
+use Rattle.reach.proofs.Taken.{Tested, all-done}
 use Rattle.reach.proofs.Turns.{Started, Sane, Stopped, Keeps, sane-start, untested, started-stopped, turns-keep, keeps-tested}
 use Rattle.reach.proofs.Complete.{mode-complete, mode-tested}
 use Rattle.theta.specs.Search.{Problem, State, initial, basic, search}
@@ -56,3 +62,19 @@ module _ {p : Problem} (F : Fair p) where
   search-tested =
       let B = begins-initial F in
       mode-tested (F .ground) (basic-disciplined p) (started B) (basic-tests p (F .ground .near-laws)) (B .tests-none)
+
+  -- ---- with no path: nothing is open, and the vertices that are reached from the start are expanded, and they alone
+
+  module _ (f : search p .found ≡ false) (v : ℕ) (l : v < p .size) where
+    pub none-open : at (search p .state .mark) v ≢ 1
+    none-open e =
+        let seen : seenIn (search p .state .mark) v ≡ true = rw e refl in
+        let undone : doneIn (search p .state .mark) v ≡ false = rw e refl in
+        false≢true (sym undone ∙ search-stopped .idle f v l seen)
+
+    pub none-expanded : (at (search p .state .mark) v ≡ 2) ↔ Reach (p .near) (p .start) v
+    none-expanded = (
+      (λ e. let done : doneIn (search p .state .mark) v ≡ true = rw e refl in
+          search-stopped .sane .inv .sound v l (search-stopped .sane .inv .within v l done)),
+      (λ r. eqb-true (at (search p .state .mark) v) 2 (all-done (F .ground) (search-stopped .sane .inv) (search-stopped .idle f) r)),
+    )

@@ -7,7 +7,7 @@ use Prim.Native.Nat.{ℕ, _*_, _≤_, _<_}
 use native.Mathlib.Omega.{arith}
 use lib.ListN.{length, drop, length-append, List·getD-append}
 use Rattle.reach.specs.Turns.{at}
-use Rattle.theta.specs.Search.{Problem, search, trail, path}
+use Rattle.theta.specs.Search.{Problem, State, search, trail, path}
 use Rattle.theta.specs.Demands.{Work}
 use Rattle.theta.specs.Fair.{Fair, FairLegs}
 use Rattle.theta.specs.Back.{Traced}
@@ -19,8 +19,8 @@ use Rattle.theta.proofs.Trails.{trail-fuel, back-longer, traced-longer}
 use Rattle.theta.proofs.Routes.{goal-open, search-traced}
 use Rattle.theta.proofs.Beyond.{path-beyond}
 
-module _ {p : Problem} (F : Fair p) {longest : ℕ} (W : FairLegs p longest) {g parent mark g′ parent′ mark′ : List ℕ} {e t : ℕ}
-    (S : Searched p g parent mark g′ parent′ mark′ true e t) where
+module _ {p : Problem} (F : Fair p) {longest : ℕ} (W : FairLegs p longest) {before after : State}
+    (S : Searched p before after true) where
   goal-now : (p .goal < p .size) × (at ((search p) .state .mark) (p .goal) ≡ 1)
   goal-now = goal-open F (sym (S .found-is))
 
@@ -31,14 +31,14 @@ module _ {p : Problem} (F : Fair p) {longest : ℕ} (W : FairLegs p longest) {g 
   short = search-traced F W (sym (S .found-is))
 
   -- the parents lead from the goal back to the start
-  pub lent-traced : Traced (length parent′) (p .start) parent′ (p .goal)
-  lent-traced = traced-longer (drop (p .size) parent) parent′ (S .parent-is) (omega (arith, sizes .parent-size)) short
+  pub lent-traced : Traced (length (after .parent)) (p .start) (after .parent) (p .goal)
+  lent-traced = traced-longer (drop (p .size) (before .parent)) (after .parent) (S .parent-is) (omega (arith, sizes .parent-size)) short
 
   -- and what is read from them is the search's path
-  pub lent-path : trail (p .start) parent′ (length parent′) (p .goal) ≡ path p ((search p) .state)
+  pub lent-path : trail (p .start) (after .parent) (length (after .parent)) (p .goal) ≡ path p ((search p) .state)
   lent-path =
       let own = (search p) .state .parent in
-      let rest = drop (p .size) parent in
+      let rest = drop (p .size) (before .parent) in
       let h : p .size ≤ length own = omega (arith, sizes .parent-size) in
       let l : p .size ≤ length (own ++ rest) = rw length-append (omega arith) in
       ap (λ (x : List ℕ). trail (p .start) x (length x) (p .goal)) (S .parent-is)
@@ -47,11 +47,11 @@ module _ {p : Problem} (F : Fair p) {longest : ℕ} (W : FairLegs p longest) {g 
       ∙ path-beyond F (goal-now .0) rest
 
   -- its units stand at the goal's place
-  pub lent-units : at g′ (p .goal) ≡ at ((search p) .state .g) (p .goal)
+  pub lent-units : at (after .g) (p .goal) ≡ at ((search p) .state .g) (p .goal)
   lent-units =
       ap (λ (x : List ℕ). at x (p .goal)) (S .g-is)
-      ∙ List·getD-append ((search p) .state .g) (drop (p .size) g) 0 (p .goal) (omega (arith, sizes .g-size, goal-now .0))
+      ∙ List·getD-append ((search p) .state .g) (drop (p .size) (before .g)) 0 (p .goal) (omega (arith, sizes .g-size, goal-now .0))
 
   -- and are no more than a longest leg for each vertex
-  pub lent-bound : at g′ (p .goal) ≤ p .size * longest
+  pub lent-bound : at (after .g) (p .goal) ≤ p .size * longest
   lent-bound = rw lent-units (g-bound F (search-stopped F .sane) (search-held F W) (p .goal) (goal-now .0) (rw (goal-now .1) refl))

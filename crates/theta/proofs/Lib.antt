@@ -14,4 +14,3 @@ pub mod Routes
 pub mod Beyond
 pub mod Found
 pub mod Rounds
-pub mod Reading

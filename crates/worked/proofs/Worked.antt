@@ -11,11 +11,11 @@ use Rattle.sight.specs.Neighbours.{neighbours, visible}
 use Rattle.reach.specs.Turns.{turns}
 use Rattle.theta.specs.Order.{sooner, least}
 use Rattle.theta.specs.Search.{initial, choose, wins, around, close, expand, search, trail, path}
-use Rattle.search.specs.Problem.{problem}
+use Rattle.problem.specs.Problem.{problem}
 use Rattle.router.specs.Answers.{workRow, searchRow, routeRow, found}
 use Rattle.records.specs.Records.{byte, inOrder}
-use Rattle.job.specs.Job.{usedBy, coordinate}
-use Rattle.job.specs.Refusals.{isUntidy, netBefore, recordRows, jobRows}
+use Rattle.faults.specs.Job.{usedBy, coordinate}
+use Rattle.faults.specs.Refusals.{isUntidy, netBefore, recordRows, jobRows}
 use Rattle.job.specs.Answers.{noSides, boardRow}
 use Rattle.worked.specs.Table.{AllHold, table, corner, enough}
 

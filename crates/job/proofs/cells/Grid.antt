@@ -17,13 +17,13 @@ use Rattle.board.specs.Handed.{firstBad}
 use Rattle.board.proofs.Rows.{side-least, cells-few}
 use Rattle.records.specs.Records.{records}
 use Rattle.job.specs.declared.BoardAnswer.the-variants.{Board, Short}
-use Rattle.job.specs.declared.steps.Progress.{Progress}
-use Rattle.job.specs.Job.{isKeepout, width, height, left, top, right, bottom, covers, inKeepout, cellsUpTo, boardCells, nets}
+use Rattle.faults.specs.declared.steps.Progress.{Progress}
+use Rattle.faults.specs.Job.{isKeepout, width, height, left, top, right, bottom, covers, inKeepout, cellsUpTo, boardCells, nets}
 use Rattle.job.specs.Answers.{handedBoard, BoardRead}
-use Rattle.job.specs.Inner.{Accepted}
-use Rattle.job.specs.Steps.{progress}
+use Rattle.faults.specs.Inner.{Accepted}
+use Rattle.faults.specs.Steps.{progress}
 use Rattle.job.specs.Cells.{Filled, Painted}
-use Rattle.job.proofs.Accepted.{some-record, width-fits, height-fits, keepout-below}
+use Rattle.faults.proofs.Accepted.{some-record, width-fits, height-fits, keepout-below}
 use Rattle.job.proofs.Reading.{board-short, board-done}
 
 -- ---- the list of cells

@@ -13,15 +13,16 @@ use Rattle.laws.proofs.Tests.{order}
 use Rattle.laws.proofs.Below.{indexed-here, many-above, indexed-below, indexed-does-pass}
 use Rattle.board.specs.Handed.{answer}
 use Rattle.records.specs.Records.{records, byte}
-use Rattle.job.specs.declared.kinds.Record.{Record}
-use Rattle.job.specs.declared.kinds.Record.the-variants.{Net, Stray}
-use Rattle.job.proofs.kinds.Record.{the-type}
+use Rattle.faults.specs.declared.kinds.Record.{Record}
+use Rattle.faults.specs.declared.kinds.Record.the-variants.{Net, Stray}
+use Rattle.faults.proofs.kinds.Record.{the-type}
 use Rattle.job.specs.declared.NetAnswer.the-variants as net-read
-use Rattle.job.specs.Job.{isNet, netAt, nets, netRecord}
+use Rattle.faults.specs.Job.{isNet, netAt, nets, netRecord}
 use Rattle.job.specs.Answers.{handedNet, netRow}
-use Rattle.job.specs.Inner.{Accepted}
-use Rattle.job.specs.Kinds.{recordAt, netSaid}
-use Rattle.job.proofs.Accepted.{not-stray}
+use Rattle.faults.specs.Inner.{Accepted}
+use Rattle.faults.specs.Kinds.{recordAt}
+use Rattle.job.specs.Inner.{netSaid}
+use Rattle.faults.proofs.Accepted.{not-stray}
 
 -- ---- found among the records
 

@@ -1,7 +1,8 @@
 -- `job::read_net` checks the whole job and takes out the net.
 use mathlib.Core.Path.{sym, ap, _∙_}
-use Rattle.job.specs.Steps.{handedStep}
-use Rattle.job.proofs.steps.Judging.{whole-next, whole-refused}
+use Rattle.faults.specs.Refusals.{refusalRow}
+use Rattle.faults.specs.Steps.{handedStep}
+use Rattle.faults.proofs.steps.Judging.{whole-next, whole-stopped}
 use Rattle.job.proofs.Reading.{net-refused}
 use borrow.Author.Needs.{needs}
 use Rattle.job.proofs.read_net.Statement.{statement}
@@ -10,17 +11,20 @@ use Rattle.job.proofs.read_net.Tie as tie
 check-job-requires : tie.Need-check-job-requires
 check-job-requires c κs = search needs
 
-enum-known-checked : tie.Need-enum-known-checked
-enum-known-checked c = search needs
+enum-told : tie.Need-enum-told
+enum-told c = search needs
+
+enum-told-2 : tie.Need-enum-told-2
+enum-told-2 c = search needs
+
+why-requires : tie.Need-why-requires
+why-requires c κs = search needs
 
 returns : tie.Need-returns
 returns c =
-    let stop = c .before in
-    let why = stop .checked .given .0 .0 in
-    net-refused _ _ why (whole-refused _ why (sym (ap handedStep (stop .checked .given .1)) ∙ stop .before .before .check-job .ensures))
-
-enum-told : tie.Need-enum-told
-enum-told c = search needs
+    let stop = c .before .before in
+    let row-is = whole-stopped _ (stop .before .check-job .result) (stop .match .keys2) (stop .before .check-job .ensures) in
+    net-refused _ _ (c .why .result) (row-is ∙ ap refusalRow (sym (c .why .ensures)))
 
 net-at-requires : tie.Need-net-at-requires
 net-at-requires c κs = whole-next _ (sym (ap handedStep (c .enum-told .given .1)) ∙ c .before .before .check-job .ensures) .0
@@ -31,4 +35,11 @@ returns-2 c = search needs
 pub read-net-spec : {M : Type 1} → statement M
 read-net-spec =
     tie.close
-    (tie.spec check-job-requires enum-known-checked returns enum-told net-at-requires returns-2)
+    (tie.spec
+    check-job-requires
+    enum-told
+    enum-told-2
+    why-requires
+    returns
+    net-at-requires
+    returns-2)

@@ -9,7 +9,7 @@ use denote.Ref.{now}
 use lib.ListN.{take, length-take}
 use Rattle.board.specs.Board.{board}
 use Rattle.board.specs.Inner.{Sound}
-use Rattle.job.specs.Inner.{Accepted}
+use Rattle.faults.specs.Inner.{Accepted}
 use Rattle.job.proofs.Above.{board-given, given-sound}
 use Rattle.route.proofs.serve.Statement.{statement}
 use Rattle.route.proofs.serve.Tie as tie

@@ -2,7 +2,7 @@
 use Prim.Native.Nat.{_≤_, _-_}
 use borrow.Author.Needs.{needs}
 use Rattle.board.specs.Limits.{largestSide}
-use Rattle.job.specs.Inner.{Accepted}
+use Rattle.faults.specs.Inner.{Accepted}
 use Rattle.route.proofs.write_nets.Statement.{statement}
 use Rattle.route.proofs.write_nets.Tie as tie
 

@@ -8,7 +8,7 @@ use Rattle.board.specs.Inner.{Sound}
 use Rattle.board.specs.Handed.{passes, verdict, legRows}
 use Rattle.board.proofs.Numbers.{vertices-few}
 use Rattle.board.proofs.Rows.{leg-sound, leg-first, leg-second}
-use Rattle.router.specs.Answers.{Slices, slices}
+use Rattle.router.specs.Answers.{handedRoute, Slices, slices}
 use Rattle.router.proofs.Routing.{rooms, routed-refused, routed-short, routed-ran}
 use Rattle.router.proofs.route.Statement.{statement}
 use Rattle.router.proofs.route.Tie as tie
@@ -92,13 +92,17 @@ same-length-3 c = search needs
 same-length-4 : tie.Need-same-length-4
 same-length-4 c = search needs
 
+-- what the search leaves in the slices
+abbrev left : tie.After-search-route → Slices
+left q = let l = q .search-route .last .1 .1 .1 .1 .1 .1 .1 in slices (l .0) (l .1 .0) (l .1 .1 .0) (l .1 .1 .1 .0)
+
 returns-3 : tie.Need-returns-3
 returns-3 c =
     let q = c .before .before .before .before .before .before .before .before in
     let e = q .before .before .before .before .before in
     let s = began (e .before .before .before) in
     let a = s .args in
-    routed-ran (asked s) (a .sx) (a .sy) (a .gx) (a .gy) (lent s) (leg-passes (e .before)) _ _ (e .if1 .left) (q .search-route .ensures)
+    routed-ran (asked s) (a .sx) (a .sy) (a .gx) (a .gy) (lent s) (leg-passes (e .before)) (left q) (handedRoute (q .search-route .result)) (e .if1 .left) (q .search-route .ensures)
 
 pub route-spec : {M : Type 1} → statement M
 route-spec =

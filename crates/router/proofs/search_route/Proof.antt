@@ -1,4 +1,6 @@
 -- `router::search_route` searches, and tells the path that it found.
+use mathlib.Core.Path.{refl}
+use mathlib.Core.Bool.{true}
 use native.Mathlib.Omega.{arith}
 use borrow.Author.Needs.{needs}
 use borrow.Author.Tests.{not-true, not-false}
@@ -6,9 +8,10 @@ use denote.Ref.{now}
 use Rattle.board.specs.Board.{Board, board}
 use Rattle.board.proofs.Numbers.{number-below}
 use Rattle.theta.specs.Search as theta
+use Rattle.theta.specs.Lent.{state, Searched}
 use Rattle.theta.specs.Demands.{Work}
-use Rattle.search.specs.Problem.{problem}
-use Rattle.search.proofs.Theorems.{board-work, found-traced, found-path, found-units, found-exact}
+use Rattle.problem.specs.Problem.{problem}
+use Rattle.problem.proofs.Theorems.{board-work, found-traced, found-path, found-units, found-exact}
 use Rattle.router.proofs.Routing.{as-found, g-room, ran-none, ran-path}
 use Rattle.router.proofs.search_route.Statement.{statement}
 use Rattle.router.proofs.search_route.Tie as tie
@@ -23,68 +26,50 @@ asked s = board (now (s .args .cells)) (s .args .width) (s .args .height)
 abbrev wanted : tie.Start → theta.Problem
 wanted s = problem (asked s) (s .args .sx) (s .args .sy) (s .args .gx) (s .args .gy)
 
+-- what the slices hold before and after
+abbrev lent : tie.Start → theta.State
+lent s = state (now (s .args .g)) (now (s .args .parents)) (now (s .args .marks)) 0 0
+
+abbrev left : tie.After-find → theta.State
+left k =
+    let l = k .find .last .1 .1 .1 .1 .1 .1 .1 in
+    let o = k .find .result in
+    state (l .0) (l .1 .0) (l .1 .1 .0) (o .expansions) (o .tests)
+
 work : (c : tie.After-find) → Work (wanted (began c)) (theta.search (wanted (began c)) .state)
 work c = let s = began c in board-work (asked s) (s .args .sx) (s .args .sy) (s .args .gx) (s .args .gy) (s .pre .start)
-
-find-requires : tie.Need-find-requires
-find-requires c κs = search needs
-
-same-length : tie.Need-same-length
-same-length c = search needs
-
-same-length-2 : tie.Need-same-length-2
-same-length-2 c = search needs
-
-same-length-3 : tie.Need-same-length-3
-same-length-3 c = search needs
 
 returns : tie.Need-returns
 returns c =
     let k = c .before .before .before .before .before .before .before .before in
-    ran-none (work k) (k .find .ensures) (now (began k .args .path)) (not-true _ (c .if1 .taken))
+    ran-none (work k) {before = lent (began k)} {after = left k} (k .find .ensures) (now (began k .args .path)) (not-true _ (c .if1 .taken))
 
 abbrev ran : tie.Else1 → tie.After-find
 ran c = c .before .before .before .before .before .before .before .before
 
-number-of-requires : tie.Need-number-of-requires
-number-of-requires c κs = search needs
-
-number-of-requires-2 : tie.Need-number-of-requires-2
-number-of-requires-2 c κs = search needs
-
-cast-units : tie.Need-cast-units
-cast-units c = search needs
-
-mul-units : tie.Need-mul-units
-mul-units c = search needs
+-- a path has been found
+found : (e : tie.Else1) → let k = ran e in Searched (wanted (began k)) (lent (began k)) (left k) true
+found e =
+    let k = ran e in
+    as-found {p = wanted (began k)} {before = lent (began k)} {after = left k} (not-false (k .find .result .found) (e .if1 .left)) (k .find .ensures)
 
 slice-read-units : tie.Need-slice-read-units
 unfolding problem
 slice-read-units c =
     let k = ran (c .before .before .before) in
     let s = began k in
-    omega (arith, c .before .number-of2 .ensures, number-below (s .args .width) (s .args .height) (s .args .gx) (s .args .gy) (s .pre .goal .x-on) (s .pre .goal .y-on), g-room (work k) (k .find .ensures))
+    omega (arith, c .before .number-of2 .ensures, number-below (s .args .width) (s .args .height) (s .args .gx) (s .args .gy) (s .pre .goal .x-on) (s .pre .goal .y-on), g-room (work k) {before = lent s} {after = left k} (k .find .ensures))
 
 tell-path-requires : tie.Need-tell-path-requires
 tell-path-requires c κs =
     let e = c .before .before .before .before .before in
     let k = ran e in
     let s = began k in
-    let F = as-found {p = wanted s} (not-false _ (e .if1 .left)) (k .find .ensures) in
-    rw (c .before .before .before .before .number-of .ensures, c .before .before .before .number-of2 .ensures)
-    (found-traced (s .pre .start) (s .args .gx) (s .args .gy) F, found-exact (s .pre .start) (s .args .gx) (s .args .gy) F (s .pre .sound))
-
-same-length-4 : tie.Need-same-length-4
-same-length-4 c = search needs
-
-same-length-5 : tie.Need-same-length-5
-same-length-5 c = search needs
-
-same-length-6 : tie.Need-same-length-6
-same-length-6 c = search needs
-
-same-length-7 : tie.Need-same-length-7
-same-length-7 c = search needs
+    let a = s .args in
+    rw (c .before .before .before .before .number-of .ensures, c .before .before .before .number-of2 .ensures) (
+      found-traced (s .pre .start) (a .gx) (a .gy) {before = lent s} {after = left k} (found e),
+      found-exact (s .pre .start) (a .gx) (a .gy) {before = lent s} {after = left k} (found e) (s .pre .sound),
+    )
 
 returns-2 : tie.Need-returns-2
 unfolding problem
@@ -93,31 +78,30 @@ returns-2 c =
     let e = t .before .before .before .before .before .before in
     let k = ran e in
     let s = began k in
-    let y = not-false _ (e .if1 .left) in
-    let F = as-found {p = wanted s} y (k .find .ensures) in
+    let a = s .args in
     let n = t .before .before .before .before .before in
     let m = t .before .before .before .before in
-    ran-path (work k) (k .find .ensures) y (t .tell-path .ensures)
-    (rw (n .number-of .ensures, m .number-of2 .ensures) (found-path (s .pre .start) (s .args .gx) (s .args .gy) F))
-    (rw (m .number-of2 .ensures) (found-units (s .pre .start) (s .args .gx) (s .args .gy) F))
+    ran-path (work k) {before = lent s} {after = left k} (found e) refl (t .tell-path .ensures)
+    (rw (n .number-of .ensures, m .number-of2 .ensures) (found-path (s .pre .start) (a .gx) (a .gy) {before = lent s} {after = left k} (found e)))
+    (rw (m .number-of2 .ensures) (found-units (s .pre .start) (a .gx) (a .gy) {before = lent s} {after = left k} (found e)))
 
 pub search-route-spec : {M : Type 1} → statement M
 search-route-spec =
     tie.close
     (tie.spec
-    find-requires
-    same-length
-    same-length-2
-    same-length-3
+    (λ c κs. search needs)
+    (λ c. search needs)
+    (λ c. search needs)
+    (λ c. search needs)
     returns
-    number-of-requires
-    number-of-requires-2
-    cast-units
-    mul-units
+    (λ c κs. search needs)
+    (λ c κs. search needs)
+    (λ c. search needs)
+    (λ c. search needs)
     slice-read-units
     tell-path-requires
-    same-length-4
-    same-length-5
-    same-length-6
-    same-length-7
+    (λ c. search needs)
+    (λ c. search needs)
+    (λ c. search needs)
+    (λ c. search needs)
     returns-2)

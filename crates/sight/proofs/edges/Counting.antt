@@ -24,8 +24,8 @@ module _ (b : Board) (level : Bool) (c p q : ℕ) where
 -- what is known u edges from the first end
 pub record AtEdge (b : Board) (level : Bool) (c p q n u : ℕ) : Type 0 where
   pub n-is : n ≡ far p q
-  pub u-on : u ≤ n
   pub past : firstWhere u (walledAt b level c p q) ≡ u
+  pub u-on : u ≤ n
 
 module _ {b : Board} {level : Bool} {c p q n u : ℕ} (s : AtEdge b level c p q n u) where
   pub edges-done : u ≡ n → n ≡ openEdges b level c p q
@@ -34,7 +34,7 @@ module _ {b : Board} {level : Bool} {c p q n u : ℕ} (s : AtEdge b level c p q 
 
   pub edge-passed : u < n → walled b level c (cellAt p q u) ≡ false → AtEdge b level c p q n (u + 1)
   edge-passed l e =
-      record { n-is = s .n-is; u-on = omega arith; past = none-more (walledAt b level c p q) u (s .past) e }
+      record { n-is = s .n-is; past = none-more (walledAt b level c p q) u (s .past) e; u-on = omega arith }
 
   pub edges-stopped : u < n → walled b level c (cellAt p q u) ≡ true → u ≡ openEdges b level c p q
   unfolding openEdges

@@ -28,6 +28,13 @@ enum-known-why c = search needs
 enum-told : tie.Need-enum-told
 enum-told c = search needs
 
+returns : tie.Need-returns
+returns c =
+    let w = c .before in
+    let k = w .before .before in
+    let a = begun k .args in
+    refusal-row (asked k) (a .ax) (a .ay) (a .bx) (a .by) (k .check-leg .result) (k .check-leg .ensures) (w .why .given .0 .0) (w .why .given .1)
+
 -- the leg is accepted
 accepted : (c : tie.After-enum-told) →
     let k = c .before .before in
@@ -49,13 +56,6 @@ sees-requires c κs =
         second = leg-second (asked k) (a .ax) (a .ay) (a .bx) (a .by) e;
       },
     )
-
-returns : tie.Need-returns
-returns c =
-    let w = c .before in
-    let k = w .before .before in
-    let a = begun k .args in
-    refusal-row (asked k) (a .ax) (a .ay) (a .bx) (a .by) (k .check-leg .result) (k .check-leg .ensures) (w .why .given .0 .0) (w .why .given .1)
 
 -- what `sees` says is the row's value
 answers : (c : tie.After-sees) (seen : Bool) → c .sees .result ≡ seen →

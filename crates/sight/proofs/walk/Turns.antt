@@ -123,6 +123,16 @@ module _ {b : Board} {ax ay bx by n m : ℕ} {step : Steps} {u v ahead cell : �
     pub next-row : ahead < m → v + 1 < m
     next-row h = lt-of-mul-lt-mul-left n (omega (arith, c .ahead-is, mul-le-mul-left m (c .u-in)))
 
+    -- the last cell is in the last column
+    last-column : (last : ℕ) → last ≡ by * b .width + bx - step .down - step .right → cell ≡ last → u + 1 ≡ n
+    last-column last last-is f =
+        let l = c .leg in
+        let there : cell ≡ placeAt b ax ay bx by (n - 1) (m - 1) =
+        omega (arith, end-place l (n - 1) (m - 1) (omega (arith, l .n-some)) (omega (arith, l .m-some))) in
+        let here : u ≡ n - 1 =
+        sym come-here ∙ come-to l (n - 1) (m - 1) cell (omega (arith, l .n-some)) (omega (arith, l .m-some)) there in
+        omega (arith, l .n-some)
+
     -- row and column end together, at the leg's end or at a corner on it
     module _ (e : ahead ≡ m) (last : ℕ) (last-is : last ≡ by * b .width + bx - step .down - step .right) where
       last-row : u + 1 ≡ n → v + 1 ≡ m
@@ -130,15 +140,6 @@ module _ {b : Board} {ax ay bx by n m : ℕ} {step : Steps} {u v ahead cell : �
           let g : m * (u + 1) ≡ m * n = ap (λ (z : ℕ). m * z) f in
           ⊎-elim (λ (h : v + 1 < m). absurd (omega (arith, c .ahead-is, c .leg .n-some, mul-le-mul-left n h)))
           (λ (h : m ≤ v + 1). omega (arith, c .v-in)) (order (v + 1) m)
-
-      last-column : cell ≡ last → u + 1 ≡ n
-      last-column f =
-          let l = c .leg in
-          let there : cell ≡ placeAt b ax ay bx by (n - 1) (m - 1) =
-          omega (arith, end-place l (n - 1) (m - 1) (omega (arith, l .n-some)) (omega (arith, l .m-some))) in
-          let here : u ≡ n - 1 =
-          sym come-here ∙ come-to l (n - 1) (m - 1) cell (omega (arith, l .n-some)) (omega (arith, l .m-some)) there in
-          omega (arith, l .n-some)
 
       pub corner : (cell ≡ last → ⊥) → (u + 1 < n) × (v + 1 < m)
       corner f =
@@ -212,12 +213,12 @@ module _ {b : Board} {ax ay bx by n m : ℕ} {step : Steps} {u v ahead cell : �
           }
 
       -- or at the leg's end
-      pub walk-ended : ahead ≡ m → (last : ℕ) → last ≡ by * b .width + bx - step .down - step .right → cell ≡ last → stopAt b (length (b .cells)) ≡ cellsStop b ax ay bx by
+      pub walk-ended : m ≤ ahead → (last : ℕ) → last ≡ by * b .width + bx - step .down - step .right → cell ≡ last → stopAt b (length (b .cells)) ≡ cellsStop b ax ay bx by
       unfolding stopAt cellsStop
-      walk-ended e last last-is f =
+      walk-ended h last last-is f =
           rw (eq-eqb (length (b .cells)) (length (b .cells)) refl)
-          (sym (first-clear (far ax bx) _ (λ k h.
-          columns-clear (omega arith) k (omega (arith, last-column e last last-is f, c .leg .n-is)))))
+          (sym (first-clear (far ax bx) _ (λ k l.
+          columns-clear h k (omega (arith, last-column last last-is f, c .leg .n-is)))))
 
 module _ {b : Board} {ax ay bx by n m : ℕ} {step : Steps} {u v ahead cell : ℕ} (c : ColumnLeft b ax ay bx by n m step u v ahead cell) where
   pub ahead-fits : m ≤ ahead

@@ -5,10 +5,10 @@ use native.Mathlib.Nat.{mul-le-mul-right}
 use native.Mathlib.Omega.{arith}
 use borrow.Author.Needs.{needs}
 use Rattle.records.specs.Records.{records}
-use Rattle.job.specs.Job.{inKeepout}
+use Rattle.faults.specs.Job.{inKeepout}
 use Rattle.job.specs.Cells.{Painted}
-use Rattle.job.proofs.kinds.Says.{said}
-use Rattle.job.proofs.Accepted.{no-keepout, keepout-on}
+use Rattle.faults.proofs.kinds.Says.{said}
+use Rattle.faults.proofs.Accepted.{no-keepout, keepout-on}
 use Rattle.job.proofs.cells.Painting.{coveredBy, keepouts-none, keepouts-skip, keepouts-more}
 use Rattle.job.proofs.cells.paint_keepouts.Statement.{statement}
 use Rattle.job.proofs.cells.paint_keepouts.Tie as tie

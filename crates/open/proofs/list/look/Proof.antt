@@ -79,24 +79,21 @@ units-between-requires c κs =
     let k = c .before .before .before in
     let s = start (k .before) in
     let D = s .pre .0 in
-    let h = here k .on in (
-      (omega (arith, D .narrow), omega (arith, D .row, D .low), omega (arith, D .goal-x, D .narrow), omega (arith, D .goal-y, D .low)),
-      known-leg (s .pre .1 .1) h (D .row) (D .goal-x) (D .goal-y),
-    )
+    known-leg (s .pre .1 .1) (D .narrow, D .low) (omega (arith, D, here k .on))
 
 add-f : tie.Need-add-f Inv-loop μ-loop
 add-f c =
     let k = c .before .before .before .before in
     let s = start (k .before) in
     let a = s .args in
-    let D = s .pre .0 in
     let h = here k in
     let x = k .before .loop .column in
+    let D = s .pre .0 in
     omega (
       arith,
       s .pre .1 .0 .small (a .y * (a .width + 1) + x) (h .below) (c .before .before .if1 .taken),
       c .units-between .ensures,
-      units-small x (a .y) (a .gx) (a .gy) (omega (arith, h .on, D .narrow)) (omega (arith, D .row, D .low)) (omega (arith, D .goal-x, D .narrow)) (omega (arith, D .goal-y, D .low)),
+      units-small x (a .y) (a .gx) (a .gy) (omega (arith, D, h .on)) (omega (arith, D)) (omega (arith, D)) (omega (arith, D)),
     )
 
 ahead-requires : tie.Need-ahead-requires Inv-loop μ-loop

@@ -14,13 +14,22 @@ use Rattle.open.proofs.list.open_vertex.Tie as tie
 units-between-requires : tie.Need-units-between-requires
 units-between-requires c κs =
     let s = c .before .before .before .before .before in
-    let D = s .pre .0 in (
-      (omega (arith, D .column, D .narrow), omega (arith, D .row, D .low), omega (arith, D .goal-x, D .narrow), omega (arith, D .goal-y, D .low)),
-      known-leg (s .pre .1 .1 .1) (D .column) (D .row) (D .goal-x) (D .goal-y),
-    )
+    let D = s .pre .0 in
+    known-leg (s .pre .1 .1 .1) (D .narrow, D .low) (omega (arith, D))
 
 abbrev start : tie.After-units-between → tie.Start
 start k = k .before .before .before .before .before .before
+
+-- the start, from where the vertex has climbed
+abbrev late : tie.After-enter → tie.Start
+late e = start (e .before .before .before .before .before)
+
+returns : tie.Need-returns
+returns c =
+    let e = c .before .before .before .before in
+    let l = e .before .before .before .before in
+    let s = late e in
+    listed-opened (s .pre .0) (s .pre .1 .0) (s .pre .1 .1 .0) (l .before .units-between .ensures) (rw (l .leaf .ensures) at (e .enter .ensures))
 
 add-f : tie.Need-add-f
 add-f c =
@@ -31,7 +40,7 @@ add-f c =
       arith,
       s .pre .1 .0 .small,
       c .units-between .ensures,
-      units-small (a .x) (a .y) (a .gx) (a .gy) (omega (arith, D .column, D .narrow)) (omega (arith, D .row, D .low)) (omega (arith, D .goal-x, D .narrow)) (omega (arith, D .goal-y, D .low)),
+      units-small (a .x) (a .y) (a .gx) (a .gy) (omega (arith, D)) (omega (arith, D)) (omega (arith, D)) (omega (arith, D)),
     )
 
 leaf-requires : tie.Need-leaf-requires
@@ -55,10 +64,6 @@ enter-requires c κs =
       (K .seated, omega (arith, on s, numbers-most D (K .small))),
     )
 
--- the start, from where the vertex has climbed
-abbrev late : tie.After-enter → tie.Start
-late e = start (e .before .before .before .before .before)
-
 mul-g : tie.Need-mul-g
 mul-g c = let s = late (c .before .before .before .before) in omega (arith, on s, vertices-most (s .pre .0))
 
@@ -79,13 +84,6 @@ same-length-3 c = search needs
 
 same-length-4 : tie.Need-same-length-4
 same-length-4 c = search needs
-
-returns : tie.Need-returns
-returns c =
-    let e = c .before .before .before .before in
-    let l = e .before .before .before .before in
-    let s = late e in
-    listed-opened (s .pre .0) (s .pre .1 .0) (s .pre .1 .1 .0) (l .before .units-between .ensures) (rw (l .leaf .ensures) at (e .enter .ensures))
 
 pub open-vertex-spec : {M : Type 1} → statement M
 open-vertex-spec =

@@ -2,14 +2,17 @@
 use Prim.Native.Nat.{_+_, _*_, _≤_, _<_}
 use native.Mathlib.Omega.{arith}
 use borrow.Author.Needs.{needs}
+use denote.Ref.{now}
 use Rattle.board.specs.Limits.{largestSide, mostVertices}
 use Rattle.board.proofs.Numbers.{number-below}
 use Rattle.open.specs.Groups.{perRow}
 use Rattle.open.proofs.Grouping.{nodes-fit}
 use Rattle.open.proofs.Listing.{blank-made}
-use Rattle.search.specs.Request.{sizeOf}
-use Rattle.search.proofs.Sizes.{vertices-most}
-use Rattle.search.proofs.turns.Finding.{start-sited, cleared-listed, cleared-lower, cleared-begun, begun-begins, found-whole}
+use Rattle.theta.specs.Search.{State}
+use Rattle.theta.specs.Lent.{state, Begun}
+use Rattle.round.specs.Request.{sizeOf}
+use Rattle.problem.proofs.Sizes.{vertices-most}
+use Rattle.search.proofs.Finding.{start-sited, cleared-listed, cleared-lower, cleared-begun, begun-begins, found-whole}
 use Rattle.search.proofs.inner.find_by.Statement.{statement}
 use Rattle.search.proofs.inner.find_by.Tie as tie
 
@@ -26,18 +29,6 @@ numbered b = b .before .before .before .before .before .before
 abbrev start : tie.After-number-of → tie.Start
 start n = n .before .before .before .before .before .before
 
-number-of-requires : tie.Need-number-of-requires
-number-of-requires c κs = search needs
-
-add-begin : tie.Need-add-begin
-add-begin c = search needs
-
-add-begin-2 : tie.Need-add-begin-2
-add-begin-2 c = search needs
-
-mul-begin : tie.Need-mul-begin
-mul-begin c = search needs
-
 begin-requires : tie.Need-begin-requires
 begin-requires c κs =
     let n = c .before .before .before .before .before in
@@ -46,14 +37,15 @@ begin-requires c κs =
     let A = s .pre .0 in
     (omega (arith, n .number-of .ensures, number-below (q .width) (q .height) (q .sx) (q .sy) (A .start .x-on) (A .start .y-on), few s), s .pre .1 .0)
 
-cast-open-vertex : tie.Need-cast-open-vertex
-cast-open-vertex c = search needs
+-- what the slices hold: as lent, cleared, and with the start open
+abbrev lent : tie.Start → State
+lent s = state (now (s .args .g)) (now (s .args .parents)) (now (s .args .marks)) 0 0
 
-slice-aggregate-open-vertex : tie.Need-slice-aggregate-open-vertex
-slice-aggregate-open-vertex c = search needs
+abbrev emptied : tie.After-begin → State
+emptied b = let l = b .begin .last .1 .1 in state (l .0) (l .1 .0) (l .1 .1 .0) 0 0
 
-slice-aggregate-open-vertex-2 : tie.Need-slice-aggregate-open-vertex-2
-slice-aggregate-open-vertex-2 c = search needs
+abbrev opened : tie.After-open-vertex → State
+opened o = let l = o .open-vertex .last .1 .1 .1 .1 .1 .1 .1 .1 in state (l .0) (emptied (cleared o) .parent) (l .1 .0) 0 0
 
 open-vertex-requires : tie.Need-open-vertex-requires
 open-vertex-requires c κs =
@@ -62,69 +54,62 @@ open-vertex-requires c κs =
     let s = start n in
     let A = s .pre .0 in
     let N = n .number-of .ensures in
-    let C = b .begin .ensures in (
-      start-sited A N C,
+    let C = b .begin .ensures in
+    let blank = blank-made (2 * (largestSide + 1) * perRow largestSide) (nodes-fit largestSide (A .sound .narrow) (A .sound .low)) in (
+      start-sited A,
       (
-        cleared-lower A N C,
-        (
-          cleared-listed A N C (blank-made (2 * (largestSide + 1) * perRow largestSide) (nodes-fit largestSide (A .sound .narrow) (A .sound .low))),
-          s .pre .1 .1,
-        ),
+        cleared-lower A N {before = lent s} {after = emptied b} C,
+        (cleared-listed A N {before = lent s} {after = emptied b} C blank, s .pre .1 .1),
       ),
     )
 
-slice-aggregate-run : tie.Need-slice-aggregate-run
-slice-aggregate-run c = search needs
-
-slice-aggregate-run-2 : tie.Need-slice-aggregate-run-2
-slice-aggregate-run-2 c = search needs
+begun : (o : tie.After-open-vertex) → let n = numbered (cleared o) in
+    Begun (sizeOf (start n .args .request)) (n .number-of .result) (lent (start n)) (opened o)
+begun o =
+    let b = cleared o in
+    let n = numbered b in
+    let s = start n in
+    let l = o .open-vertex .last .1 .1 .1 .1 .1 .1 .1 .1 in
+    cleared-begun (s .pre .0) (n .number-of .ensures) {before = lent s} {after = emptied b} (b .begin .ensures) {g = l .0} {mark = l .1 .0}
+    {leads = l .1 .1 .0} {keys = l .1 .1 .1 .0} (o .open-vertex .ensures)
 
 run-requires : tie.Need-run-requires
 run-requires c κs =
     let o = c .before .before .before .before .before .before .before .before .before .before .before in
-    let b = cleared o in
-    let n = numbered b in
+    let n = numbered (cleared o) in
     let s = start n in
-    let N = n .number-of .ensures in
-    let O = o .open-vertex .ensures in
-    (s .pre .0, (begun-begins (s .pre .0) N (cleared-begun (s .pre .0) N (b .begin .ensures) O), (O .listed, s .pre .1 .1)))
+    let B = begun-begins (s .pre .0) (n .number-of .ensures) {before = lent s} {after = opened o} (begun o) in
+    (s .pre .0, (B, (o .open-vertex .ensures .listed, s .pre .1 .1)))
 
-same-length : tie.Need-same-length
-same-length c = search needs
-
-same-length-2 : tie.Need-same-length-2
-same-length-2 c = search needs
-
-same-length-3 : tie.Need-same-length-3
-same-length-3 c = search needs
+-- what they hold when the turns have ended
+abbrev ran : tie.After-run → State
+ran r = let l = r .run .last .1 .1 in state (l .0) (l .1 .0) (l .1 .1 .0) (r .run .result .expansions) (r .run .result .tests)
 
 returns : tie.Need-returns
 returns c =
     let r = c .before .before .before .before .before .before .before .before in
     let o = r .before .before .before .before .before .before .before .before .before .before .before .before in
-    let b = cleared o in
-    let n = numbered b in
+    let n = numbered (cleared o) in
     let s = start n in
-    let N = n .number-of .ensures in
-    found-whole (s .pre .0) N (cleared-begun (s .pre .0) N (b .begin .ensures) (o .open-vertex .ensures)) (r .run .ensures)
+    found-whole (s .pre .0) (n .number-of .ensures) {before = lent s} {after = opened o} (begun o) {s = ran r} (r .run .ensures)
 
 pub find-by-spec : {M : Type 1} → statement M
 find-by-spec =
     tie.close
     (tie.spec
-    number-of-requires
-    add-begin
-    add-begin-2
-    mul-begin
+    (λ c κs. search needs)
+    (λ c. search needs)
+    (λ c. search needs)
+    (λ c. search needs)
     begin-requires
-    cast-open-vertex
-    slice-aggregate-open-vertex
-    slice-aggregate-open-vertex-2
+    (λ c. search needs)
+    (λ c. search needs)
+    (λ c. search needs)
     open-vertex-requires
-    slice-aggregate-run
-    slice-aggregate-run-2
+    (λ c. search needs)
+    (λ c. search needs)
     run-requires
-    same-length
-    same-length-2
-    same-length-3
+    (λ c. search needs)
+    (λ c. search needs)
+    (λ c. search needs)
     returns)

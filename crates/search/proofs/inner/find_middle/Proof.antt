@@ -1,36 +1,27 @@
 -- `search::inner::find_middle` lends the middle table, which has the lengths of its board.
-use native.Mathlib.Nat.{mul-le-mul}
-use native.Mathlib.Omega.{arith}
 use borrow.Author.Needs.{needs}
-use Rattle.table.proofs.Table.{known-less}
-use Rattle.search.specs.Request.{diagonal}
+use Rattle.search.proofs.inner.Tables.{known-board}
 use Rattle.search.proofs.inner.find_middle.Statement.{statement}
 use Rattle.search.proofs.inner.find_middle.Tie as tie
 
-middle-lengths-requires : tie.Need-middle-lengths-requires
-middle-lengths-requires c κs = search needs
-
-slice-aggregate-find-by : tie.Need-slice-aggregate-find-by
-slice-aggregate-find-by c = search needs
+-- the start, from where the table has been made
+abbrev start : tie.After-middle-lengths → tie.Start
+start k = k .before .before .before .before .before
 
 find-by-requires : tie.Need-find-by-requires
 find-by-requires c κs =
     let k = c .before .before .before .before in
-    let s = k .before .before .before .before .before in
-    (s .pre .0, (s .pre .1 .0, known-less (k .middle-lengths .ensures) (diagonal (s .args .request)) (omega (arith, mul-le-mul (s .pre .1 .1 .0) (s .pre .1 .1 .0), mul-le-mul (s .pre .1 .1 .1) (s .pre .1 .1 .1)))))
-
-same-length : tie.Need-same-length
-same-length c = search needs
-
-same-length-2 : tie.Need-same-length-2
-same-length-2 c = search needs
-
-same-length-3 : tie.Need-same-length-3
-same-length-3 c = search needs
-
-returns : tie.Need-returns
-returns c = search needs
+    let s = start k in
+    (s .pre .0, (s .pre .1 .0, known-board (k .middle-lengths .ensures) (s .args .request) (s .pre .1 .1)))
 
 pub find-middle-spec : {M : Type 1} → statement M
 find-middle-spec =
-    tie.close (tie.spec middle-lengths-requires slice-aggregate-find-by find-by-requires same-length same-length-2 same-length-3 returns)
+    tie.close
+    (tie.spec
+    (λ c κs. search needs)
+    (λ c. search needs)
+    find-by-requires
+    (λ c. search needs)
+    (λ c. search needs)
+    (λ c. search needs)
+    (λ c. search needs))

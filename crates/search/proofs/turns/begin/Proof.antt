@@ -4,30 +4,6 @@ use borrow.Author.Needs.{needs}
 use Rattle.search.proofs.turns.begin.Statement.{statement}
 use Rattle.search.proofs.turns.begin.Tie as tie
 
-clear-g-requires : tie.Need-clear-g-requires
-clear-g-requires c κs = search needs
-
-clear-parents-requires : tie.Need-clear-parents-requires
-clear-parents-requires c κs = search needs
-
-clear-marks-requires : tie.Need-clear-marks-requires
-clear-marks-requires c κs = search needs
-
-mul-parents : tie.Need-mul-parents
-mul-parents c = search needs
-
-slice-write-parents : tie.Need-slice-write-parents
-slice-write-parents c = search needs
-
-same-length : tie.Need-same-length
-same-length c = search needs
-
-same-length-2 : tie.Need-same-length-2
-same-length-2 c = search needs
-
-same-length-3 : tie.Need-same-length-3
-same-length-3 c = search needs
-
 returns : tie.Need-returns
 returns c =
     let m = c .before .before in
@@ -39,12 +15,12 @@ pub begin-spec : {M : Type 1} → statement M
 begin-spec =
     tie.close
     (tie.spec
-    clear-g-requires
-    clear-parents-requires
-    clear-marks-requires
-    mul-parents
-    slice-write-parents
-    same-length
-    same-length-2
-    same-length-3
+    (λ c κs. search needs)
+    (λ c κs. search needs)
+    (λ c κs. search needs)
+    (λ c. search needs)
+    (λ c. search needs)
+    (λ c. search needs)
+    (λ c. search needs)
+    (λ c. search needs)
     returns)

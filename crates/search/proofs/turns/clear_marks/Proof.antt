@@ -1,45 +1,28 @@
 -- `search::turns::clear_marks` has written as many zeros as it has come by.
-use mathlib.Core.Path.{_≡_, refl}
-use mathlib.Core.List.{_++_}
-use Prim.Native.Nat.{_-_, _≤_}
+use Prim.Native.Nat.{_-_}
 use native.Mathlib.Omega.{arith}
-use borrow.Author.Fill.{fill-more}
 use denote.Ref.{now}
-use lib.ListN.{length, replicate, drop, length-set}
+use Rattle.search.proofs.turns.Filled.{Filled, filled-none, filled-more, filled-all}
 use Rattle.search.proofs.turns.clear_marks.Statement.{statement}
 use Rattle.search.proofs.turns.clear_marks.Tie as tie
 
 abbrev Inv-loop : tie.InvT-loop
-Inv-loop n marks₀ v₀ marks v = (v ≤ n) × (marks ≡ replicate v 0 ++ drop v marks₀) × (length marks ≡ length marks₀)
+Inv-loop n marks₀ v₀ marks v = Filled n v marks₀ marks
 
 abbrev μ-loop : tie.MeasureT-loop
 μ-loop n marks₀ v₀ marks v = n - v
 
 loop-holds : tie.Need-loop-holds Inv-loop μ-loop
-loop-holds c = (omega arith, refl, refl)
+loop-holds c = filled-none (c .args .n) (now (c .args .marks))
 
 slice-write-marks : tie.Need-slice-write-marks Inv-loop μ-loop
-slice-write-marks c = omega arith
-
-add-v : tie.Need-add-v Inv-loop μ-loop
-add-v c = omega arith
-
-loop-less : tie.Need-loop-less Inv-loop μ-loop
-loop-less c = omega arith
+slice-write-marks c = omega (arith, c .before .loop .inv .same)
 
 loop-again : tie.Need-loop-again Inv-loop μ-loop
-loop-again c =
-    let l = c .before .loop in
-    (omega arith, rw (l .inv .1) (fill-more (l .v) 0 (now (c .before .before .args .marks)) (omega arith)), rw length-set (l .inv .2))
-
-same-length : tie.Need-same-length Inv-loop μ-loop
-same-length c = c .before .loop .inv .2
+loop-again c = filled-more (c .before .loop .inv) (c .loop-test .taken) (c .before .before .pre)
 
 returns : tie.Need-returns Inv-loop μ-loop
-returns c =
-    let l = c .before .loop in
-    let e : l .v ≡ c .before .before .args .n = omega arith in
-    rw (l .inv .1, e) refl
+returns c = filled-all (c .before .loop .inv) (omega (arith, c .loop-test .left))
 
 pub clear-marks-spec : {M : Type 1} → statement M
 clear-marks-spec =
@@ -49,8 +32,8 @@ clear-marks-spec =
     μ-loop
     loop-holds
     slice-write-marks
-    add-v
-    loop-less
+    (λ c. omega arith)
+    (λ c. omega arith)
     loop-again
-    same-length
+    (λ c. c .before .loop .inv .same)
     returns)

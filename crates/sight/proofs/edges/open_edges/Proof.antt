@@ -38,7 +38,7 @@ distance-requires : tie.Need-distance-requires Inv-edges μ-edges
 distance-requires c κs = search needs
 
 edges-holds : tie.Need-edges-holds Inv-edges μ-edges
-edges-holds c = record { n-is = c .distance .ensures; u-on = omega arith; past = none-yet _ }
+edges-holds c = record { n-is = c .distance .ensures; past = none-yet _; u-on = omega arith }
 
 cell-requires : tie.Need-cell-requires Inv-edges μ-edges
 cell-requires c κs = search needs

@@ -6,7 +6,7 @@ use borrow.Author.Needs.{needs}
 use denote.Ref.{now}
 use Rattle.board.specs.Board.{Board, board}
 use Rattle.sight.specs.Leg.{far}
-use Rattle.sight.proofs.Neighbours.{level-step, upright-step, diagonal-step, neighbours-near, neighbours-differ}
+use Rattle.sight.proofs.Neighbours.{level-step, upright-step, diagonal-read, neighbours-near, neighbours-differ}
 use Rattle.sight.proofs.inner.sees_neighbour.Statement.{statement}
 use Rattle.sight.proofs.inner.sees_neighbour.Tie as tie
 
@@ -74,8 +74,8 @@ returns-3 c =
     let s = begun l in
     let a = s .args in
     let f : far (a .ax) (a .bx) ≡ 1 = omega (arith, near l, c .before .if2 .left) in
-    rw (c .is-cell-blocked .ensures, l .before .lesser .ensures, l .lesser2 .ensures)
-    (sym (diagonal-step (asked l) (a .ax) (a .ay) (a .bx) (a .by) (s .pre .1 .0) f (upright-far k)))
+    diagonal-read (asked l) (a .ax) (a .ay) (a .bx) (a .by) (s .pre .1 .0)
+    (c .is-cell-blocked .ensures) (l .before .lesser .ensures) (l .lesser2 .ensures) f (upright-far k)
 
 pub sees-neighbour-spec : {M : Type 1} → statement M
 sees-neighbour-spec =

@@ -73,14 +73,28 @@ column k =
     let a = begun (measured k) .args in
     come (asked (measured k)) (a .ax) (a .ay) (a .bx) (a .by) (k .columns .cell)
 
--- the row ends before the column does: the leg goes on in the next row
-goes-on : (c : tie.Else2 Inv-loop μ-loop Inv-columns μ-columns) → let t = c .before .before .before in t .loop .inv .0 + 1 < rows (t .before)
-goes-on c = let (v, i) = c .before .before .before .loop .inv in next-row i (omega (arith, c .if2 .left))
-
 -- they end together, and not at the leg's end: the leg goes on behind a corner
 turns : (t : tie.At-loop Inv-loop μ-loop Inv-columns μ-columns) → t .loop .ahead ≡ rows (t .before) → (t .loop .cell ≡ end (t .before) → ⊥)
     → (column (t .before) + 1 < columns (t .before)) × (t .loop .inv .0 + 1 < rows (t .before))
 turns t e f = let (v, i) = t .loop .inv in corner i e _ (t .before .before .before .cell-beside .ensures) f
+
+-- ---- what the walk finds
+
+returns : tie.Need-returns Inv-loop μ-loop Inv-columns μ-columns
+returns c = let (v, i) = c .before .before .loop .inv in walk-stopped i (c .if1 .taken)
+
+returns-2 : tie.Need-returns-2 Inv-loop μ-loop Inv-columns μ-columns
+returns-2 c =
+    let k = c .before .before .before in
+    let t = k .before .before in
+    let (v, i) = t .loop .inv in
+    walk-ended i (k .if1 .left) (omega (arith, c .before .if3 .taken)) _ (t .before .before .before .cell-beside .ensures) (c .if4 .taken)
+
+loop-again : tie.Need-loop-again Inv-loop μ-loop Inv-columns μ-columns
+loop-again c =
+    let k = c .before .before in
+    let (v, i) = k .before .before .before .loop .inv in
+    (v + 1, cell-passed i (k .before .if1 .left) (omega (arith, k .if2 .left)))
 
 -- the column is left, inside a row or by a corner
 left-column : (c : tie.Joined3 Inv-loop μ-loop Inv-columns μ-columns) →
@@ -95,7 +109,18 @@ left-column c =
     ⊎-elim (λ w. rw (w .4, w .5) (v + 1, left-corner i free (w .0 .taken) (turns t (w .0 .taken) (w .1 .left))))
     (λ w. rw (w .1, w .2) (v, left-inside i free (omega (arith, c .before .if2 .taken, w .0 .left)))) (c .if3 .came)
 
--- ---- the needs
+-- the same place, where the next cell is worked out
+abbrev left : tie.After-struct-known6 Inv-loop μ-loop Inv-columns μ-columns → tie.Joined3 Inv-loop μ-loop Inv-columns μ-columns
+left c = c .before .before .before .before
+
+columns-again : tie.Need-columns-again Inv-loop μ-loop Inv-columns μ-columns
+columns-again c = let (v, i) = left-column (left c) in (_, v, column-passed i)
+
+-- ---- that it starts, ends, and stays in its numbers
+
+-- the row ends before the column does: the leg goes on in the next row
+goes-on : (c : tie.Else2 Inv-loop μ-loop Inv-columns μ-columns) → let t = c .before .before .before in t .loop .inv .0 + 1 < rows (t .before)
+goes-on c = let (v, i) = c .before .before .before .loop .inv in next-row i (omega (arith, c .if2 .left))
 
 distance-requires : tie.Need-distance-requires Inv-loop μ-loop Inv-columns μ-columns
 distance-requires c κs = search needs
@@ -147,12 +172,6 @@ loop-less c =
     let (v, i) = k .before .before .before .loop .inv in
     omega (arith, k .if2 .left, i .leg .n-some)
 
-loop-again : tie.Need-loop-again Inv-loop μ-loop Inv-columns μ-columns
-loop-again c =
-    let k = c .before .before in
-    let (v, i) = k .before .before .before .loop .inv in
-    (v + 1, cell-passed i (k .before .if1 .left) (omega (arith, k .if2 .left)))
-
 add-ahead-2 : tie.Need-add-ahead-2 Inv-loop μ-loop Inv-columns μ-columns
 add-ahead-2 c =
     let (v, i) = c .before .before .before .before .before .loop .inv in omega (arith, c .before .if3 .taken, n-small (i .leg), m-small (i .leg))
@@ -174,28 +193,11 @@ sub-ahead c = let (v, i) = left-column (c .before) in ahead-fits i
 add-cell-3 : tie.Need-add-cell-3 Inv-loop μ-loop Inv-columns μ-columns
 add-cell-3 c = let (v, i) = left-column (c .before .before .before) in omega (arith, column-small i)
 
--- the same place, where the next cell is worked out
-abbrev left : tie.After-struct-known6 Inv-loop μ-loop Inv-columns μ-columns → tie.Joined3 Inv-loop μ-loop Inv-columns μ-columns
-left c = c .before .before .before .before
-
 sub-cell-3 : tie.Need-sub-cell-3 Inv-loop μ-loop Inv-columns μ-columns
 sub-cell-3 c = let (v, i) = left-column (left c) in column-fits i
 
 columns-less : tie.Need-columns-less Inv-loop μ-loop Inv-columns μ-columns
 columns-less c = let (v, i) = left-column (left c) in column-less i
-
-columns-again : tie.Need-columns-again Inv-loop μ-loop Inv-columns μ-columns
-columns-again c = let (v, i) = left-column (left c) in (_, v, column-passed i)
-
-returns : tie.Need-returns Inv-loop μ-loop Inv-columns μ-columns
-returns c = let (v, i) = c .before .before .loop .inv in walk-stopped i (c .if1 .taken)
-
-returns-2 : tie.Need-returns-2 Inv-loop μ-loop Inv-columns μ-columns
-returns-2 c =
-    let k = c .before .before .before in
-    let t = k .before .before in
-    let (v, i) = t .loop .inv in
-    walk-ended i (k .if1 .left) (c .before .if3 .taken) _ (t .before .before .before .cell-beside .ensures) (c .if4 .taken)
 
 pub first-blocked-spec : {M : Type 1} → statement M
 first-blocked-spec =

@@ -1,0 +1,6 @@
+pub mod Says
+pub mod Table
+pub mod Leaving
+pub mod Closing
+pub mod Examples
+pub mod Wrong

@@ -1,0 +1,118 @@
+// One record by itself: its type, and what it says.
+ghost use mathlib.Core.Path.{_≡_};
+ghost use Prim.Native.Nat.{_<_};
+ghost use Rattle.laws.specs.Below.{firstWhere};
+ghost use Rattle.records.specs.Records.{recordBytes, records, byte, isIn, isStrayByte};
+ghost use Rattle.faults.specs.Job.{usedBy, coordinate};
+ghost use Rattle.faults.specs.Kinds.{recordAt};
+use records::RECORD;
+use records::inner::byte_of;
+
+// The types, as byte 0 of a record gives them.
+const BOARD: usize = 1;
+
+const KEEPOUT: usize = 2;
+
+pub const NET: usize = 3;
+
+// What a record says; a keepout goes from (left, top) to just before (right, bottom).
+pub enum Record {
+    Board {
+        width: usize,
+        height: usize,
+    },
+    Keepout {
+        left: usize,
+        top: usize,
+        right: usize,
+        bottom: usize,
+    },
+    Net {
+        number: usize,
+        sx: usize,
+        sy: usize,
+        gx: usize,
+        gy: usize,
+    },
+    Stray,
+}
+
+// The coordinate that byte k of record i gives.
+fn coordinate_of(job: &[u8], i: usize, k: usize) -> usize
+    requires { ⌜ (i < records (now job)) × (k < recordBytes) ⌝ }
+    ensures { λ r. ⌜ r ≡ coordinate (now (job .entry)) i k ⌝ }
+{
+    byte_of(job, i, k)
+}
+
+// Whether a record of that type uses byte k.
+fn is_used(typed: usize, k: usize) -> bool
+    ensures { λ r. ⌜ r ≡ isIn k (usedBy typed) ⌝ }
+{
+    if typed == BOARD {
+        return (k == 0) | ((k == 2) | (k == 3));
+    }
+    let past = (k == 2) | ((k == 3) | ((k == 4) | (k == 5)));
+    if typed == KEEPOUT {
+        return (k == 0) | past;
+    }
+    if typed == NET {
+        return (k == 0) | ((k == 1) | past);
+    }
+    false
+}
+
+// The first unused byte of record i that is not 0, or the number of bytes.
+fn stray_byte(job: &[u8], i: usize, kind: usize) -> usize
+    requires { ⌜ i < records (now job) ⌝ }
+    ensures { λ r. ⌜ r ≡ firstWhere recordBytes (isStrayByte (now (job .entry)) (usedBy kind) i) ⌝ }
+{
+    for k in 0..RECORD {
+        if !is_used(kind, k) {
+            if byte_of(job, i, k) != 0 {
+                return k;
+            }
+        }
+    }
+    RECORD
+}
+
+// What record i says.
+pub fn record_at(job: &[u8], i: usize) -> Record
+    requires { ⌜ i < records (now job) ⌝ }
+    ensures { λ r. ⌜ r ≡ recordAt (now (job .entry)) i ⌝ }
+{
+    let kind = byte_of(job, i, 0);
+    if stray_byte(job, i, kind) < RECORD {
+        return Record::Stray;
+    }
+    let number = byte_of(job, i, 1);
+    let x = coordinate_of(job, i, 2);
+    let y = coordinate_of(job, i, 3);
+    let to_x = coordinate_of(job, i, 4);
+    let to_y = coordinate_of(job, i, 5);
+    if kind == BOARD {
+        return Record::Board {
+            width: x,
+            height: y,
+        };
+    }
+    if kind == KEEPOUT {
+        return Record::Keepout {
+            left: x,
+            top: y,
+            right: to_x,
+            bottom: to_y,
+        };
+    }
+    if kind == NET {
+        return Record::Net {
+            number,
+            sx: x,
+            sy: y,
+            gx: to_x,
+            gy: to_y,
+        };
+    }
+    Record::Stray
+}

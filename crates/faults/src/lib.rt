@@ -1,0 +1,59 @@
+// Which jobs are refused, and where: a job's bytes are checked record by record.
+ghost use mathlib.Core.Path.{_≡_};
+ghost use Rattle.board.specs.Handed.{numberIn, placeIn};
+ghost use Rattle.faults.specs.Refusals.{refusalRow};
+
+pub mod kinds;
+pub mod steps;
+
+// The most bytes of a job.
+pub const LONGEST: usize = 8192;
+
+// Why a job is refused: document 01's 10 to 18, from 12 on with the number of the record.
+pub enum JobRefusal {
+    Long,
+    Uneven,
+    Order(usize),
+    Stray(usize),
+    Side(usize),
+    Keepout(usize),
+    End(usize),
+    Number(usize),
+    Late(usize),
+}
+
+impl JobRefusal {
+    // Document 01's number.
+    pub fn number(self) -> u64
+        ensures { λ r. ⌜ r ≡ numberIn (refusalRow self) ⌝ }
+    {
+        match self {
+            JobRefusal::Long => 10,
+            JobRefusal::Uneven => 11,
+            JobRefusal::Order(_) => 12,
+            JobRefusal::Stray(_) => 13,
+            JobRefusal::Side(_) => 14,
+            JobRefusal::Keepout(_) => 15,
+            JobRefusal::End(_) => 16,
+            JobRefusal::Number(_) => 17,
+            JobRefusal::Late(_) => 18,
+        }
+    }
+
+    // The number of the record, 0 where none is named.
+    pub fn place(self) -> usize
+        ensures { λ r. ⌜ r ≡ placeIn (refusalRow self) ⌝ }
+    {
+        match self {
+            JobRefusal::Long => 0,
+            JobRefusal::Uneven => 0,
+            JobRefusal::Order(i) => i,
+            JobRefusal::Stray(i) => i,
+            JobRefusal::Side(i) => i,
+            JobRefusal::Keepout(i) => i,
+            JobRefusal::End(i) => i,
+            JobRefusal::Number(i) => i,
+            JobRefusal::Late(i) => i,
+        }
+    }
+}

@@ -1,0 +1,4 @@
+pub mod Sizes
+pub mod Fair
+pub mod Rounding
+pub mod Theorems

@@ -1,0 +1,85 @@
+-- What the search promises on document 01's board, and what the crate above may rely on. Assumes nothing.
+use mathlib.Core.Path.{_≡_}
+use mathlib.Core.Bool.{true}
+use Prim.Native.Nat.{ℕ, _^_, _<_}
+use native.Mathlib.Omega.{arith}
+use lib.ListN.{length}
+use Rattle.board.specs.Board.{Board, vertices, number}
+use Rattle.board.specs.Inner.{Sound, OnBoard}
+use Rattle.reach.specs.Complete.{Complete, PairsTested}
+use Rattle.reach.specs.Turns.{at}
+use Rattle.sight.specs.Neighbours.{visible}
+use Rattle.theta.specs.Search.{State, search, trail, path}
+use Rattle.theta.specs.Demands.{IsRoute, Work}
+use Rattle.theta.specs.Lent.{Searched}
+use Rattle.theta.specs.Back.{Traced}
+use Rattle.theta.proofs.Completeness.{search-complete, search-tested}
+use Rattle.theta.proofs.Tidy.{search-work}
+use Rattle.theta.proofs.Routes.{search-route}
+use Rattle.theta.proofs.Found.{lent-traced, lent-path, lent-units, lent-bound}
+use Rattle.problem.specs.Problem.{problem, RoundedDown}
+use Rattle.problem.proofs.Sizes.{largest-exact}
+use Rattle.problem.proofs.Fair.{board-fair, board-legs}
+use Rattle.problem.proofs.Rounding.{path-rounded}
+
+-- ---- the demands
+
+module _ (b : Board) (sx sy gx gy : ℕ) (S : OnBoard b sx sy) where
+  -- demand 3: what is found
+  pub board-complete : Complete (vertices b) (visible b (number b sx sy) (number b gx gy)) (number b sx sy) (number b gx gy)
+      ((search (problem b sx sy gx gy)) .found) ((search (problem b sx sy gx gy)) .state .expansions)
+  unfolding problem
+  board-complete = search-complete (board-fair b sx sy gx gy S)
+
+  -- and what is tested
+  pub board-tested : PairsTested (vertices b) (visible b (number b sx sy) (number b gx gy)) (number b sx sy)
+      ((search (problem b sx sy gx gy)) .found) ((search (problem b sx sy gx gy)) .state .tests)
+  unfolding problem
+  board-tested = search-tested (board-fair b sx sy gx gy S)
+
+  -- the work slices
+  pub board-work : Work (problem b sx sy gx gy) ((search (problem b sx sy gx gy)) .state)
+  board-work = search-work (board-fair b sx sy gx gy S)
+
+  module _ (f : (search (problem b sx sy gx gy)) .found ≡ true) where
+    -- a path that is found is a route, as long as the goal's g
+    pub board-route : IsRoute (problem b sx sy gx gy) (path (problem b sx sy gx gy) ((search (problem b sx sy gx gy)) .state))
+        (at ((search (problem b sx sy gx gy)) .state .g) (number b gx gy))
+    unfolding problem
+    board-route = search-route (board-fair b sx sy gx gy S) (board-legs b sx sy gx gy) f
+
+    -- and that is its length, each leg rounded down
+    pub board-measured : RoundedDown b (path (problem b sx sy gx gy) ((search (problem b sx sy gx gy)) .state))
+        (at ((search (problem b sx sy gx gy)) .state .g) (number b gx gy))
+    unfolding problem
+    board-measured =
+        rw (board-route .total) (path-rounded b sx sy gx gy (path (problem b sx sy gx gy) ((search (problem b sx sy gx gy)) .state)))
+
+-- ---- after a call of `find` that found a path
+
+module _ {b : Board} {sx sy : ℕ} (S : OnBoard b sx sy) (gx gy : ℕ) {before after : State}
+    (F : Searched (problem b sx sy gx gy) before after true) where
+  -- `count_path` and `write_path` may be called
+  pub found-traced : Traced (length (after .parent)) (number b sx sy) (after .parent) (number b gx gy)
+  unfolding problem
+  found-traced = lent-traced (board-fair b sx sy gx gy S) (board-legs b sx sy gx gy) F
+
+  -- and what they read is the search's path
+  pub found-path : trail (number b sx sy) (after .parent) (length (after .parent)) (number b gx gy)
+      ≡ path (problem b sx sy gx gy) ((search (problem b sx sy gx gy)) .state)
+  unfolding problem
+  found-path = lent-path (board-fair b sx sy gx gy S) (board-legs b sx sy gx gy) F
+
+  -- its units stand at the goal's place
+  pub found-units : at (after .g) (number b gx gy) ≡ at ((search (problem b sx sy gx gy)) .state .g) (number b gx gy)
+  unfolding problem
+  found-units = lent-units (board-fair b sx sy gx gy S) (board-legs b sx sy gx gy) F
+
+  -- and an f64 holds them
+  pub found-exact : Sound b → at (after .g) (number b gx gy) < 2 ^ 53
+  unfolding problem
+  found-exact B = omega (
+    arith,
+    lent-bound (board-fair b sx sy gx gy S) (board-legs b sx sy gx gy) F,
+    largest-exact (b .width) (b .height) (B .narrow) (B .low),
+  )

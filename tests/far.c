@@ -1,0 +1,233 @@
+/* Lends slices far longer than needed, up to 2^33 entries and more, gives numbers far beyond any board, and compares the library
+   with the second router. A length or number that is cut to fewer bits gives another answer, or writes where nobody may.
+
+       far [SCALE [SEED]]
+
+   All of a far slice can be read; only its first 64 KiB can be written, and they are compared byte by byte. The first difference
+   ends the run with 1. */
+#include "boards.h"
+#include "rooms.h"
+#include "second/second.h"
+
+#include <stdio.h>
+#include <stdlib.h>
+#include <string.h>
+
+enum { FIRST = 65536, MOST_CELLS = 63 * 63 };
+
+/* What is added to a length or a number. */
+static const size_t far_lengths[] = {0, 0, 256, 65536, (size_t)1 << 32, (size_t)3 << 31, (size_t)1 << 33};
+static const size_t far_numbers[] = {
+    0, 0, 64, 256, 65536, (size_t)1 << 31, (size_t)1 << 32, (size_t)1 << 61, (size_t)1 << 63, SIZE_MAX - 63, SIZE_MAX};
+enum { LENGTHS = sizeof far_lengths / sizeof *far_lengths, NUMBERS = sizeof far_numbers / sizeof *far_numbers };
+
+static struct dice dice;
+static uint64_t calls;
+static char request[512];
+
+static size_t below(size_t count) { return dice_below(&dice, count); }
+
+static void differ(const char *what)
+{
+    fprintf(stderr, "DIFFERENCE in group 'far slices and numbers'\n%s: %s\n", request, what);
+    exit(1);
+}
+
+static void tell_fault(const char *where)
+{
+    char what[200];
+    snprintf(what, sizeof what, "outside what may be written: %s", where);
+    differ(what);
+}
+
+/* Answers have no gaps between their fields, so that all of them are compared, doubles by their bits. */
+static void compare(const void *theirs, const void *ours, size_t bytes)
+{
+    calls++;
+    if (memcmp(theirs, ours, bytes) != 0)
+        differ("the answers differ");
+}
+
+/* ---------- slices ---------- */
+
+/* A slice in the library's room and in the second router's memory; only the second's first bytes are there. */
+struct slice {
+    struct room room;
+    void *ours;
+};
+
+static struct slice cells, g, parents, marks, path, job, board;
+
+static void open_slice(struct slice *slice, const char *name, size_t size)
+{
+    room_open_far(&slice->room, name, (((size_t)1 << 33) + FIRST) * size, FIRST);
+    slice->ours = malloc(FIRST);
+    if (!slice->ours)
+        exit(2);
+}
+
+/* The slice as the library is lent it, filled with the same bytes as the second's. */
+static void *lend(struct slice *slice, size_t length, size_t size)
+{
+    void *lent = room_lend(&slice->room, length * size, AT_FRONT);
+    dice_fill(&dice, slice->ours, FIRST);
+    memcpy(lent, slice->ours, FIRST);
+    return lent;
+}
+
+static void compare_slice(const struct slice *slice)
+{
+    if (memcmp(slice->room.lent, slice->ours, FIRST) != 0)
+        differ(slice->room.name);
+}
+
+/* ---------- sight and route ---------- */
+
+struct route_case {
+    size_t cells_len, width, height, sx, sy, gx, gy, g_len, parents_len, marks_len, path_len;
+};
+
+static void tell_case(const char *call, const struct route_case *c)
+{
+    snprintf(request, sizeof request,
+             "%s: %zu cells, width %zu, height %zu, from (%zu,%zu) to (%zu,%zu), g %zu, parents %zu, marks %zu, path %zu", call,
+             c->cells_len, c->width, c->height, c->sx, c->sy, c->gx, c->gy, c->g_len, c->parents_len, c->marks_len, c->path_len);
+}
+
+static void compare_sight(const struct route_case *c)
+{
+    tell_case("sight", c);
+    const uint8_t *lent = room_lend(&cells.room, c->cells_len, AT_FRONT);
+    struct wexxolin_sight a = wexxolin_sight(lent, c->cells_len, c->width, c->height, c->sx, c->sy, c->gx, c->gy);
+    struct wexxolin_sight b = second_sight(lent, c->cells_len, c->width, c->height, c->sx, c->sy, c->gx, c->gy);
+    compare(&a, &b, sizeof a);
+}
+
+static void compare_route(const struct route_case *c)
+{
+    tell_case("route", c);
+    const uint8_t *board_cells = room_lend(&cells.room, c->cells_len, AT_FRONT);
+    uint64_t *lent_g = lend(&g, c->g_len, sizeof *lent_g);
+    wexxolin_vertex *lent_parents = lend(&parents, c->parents_len, sizeof *lent_parents);
+    uint8_t *lent_marks = lend(&marks, c->marks_len, sizeof *lent_marks);
+    wexxolin_vertex *lent_path = lend(&path, c->path_len, sizeof *lent_path);
+    struct wexxolin_route a =
+        wexxolin_route(board_cells, c->cells_len, c->width, c->height, c->sx, c->sy, c->gx, c->gy, lent_g, c->g_len,
+                       lent_parents, c->parents_len, lent_marks, c->marks_len, lent_path, c->path_len);
+    struct wexxolin_route b =
+        second_route(board_cells, c->cells_len, c->width, c->height, c->sx, c->sy, c->gx, c->gy, g.ours, c->g_len,
+                     parents.ours, c->parents_len, marks.ours, c->marks_len, path.ours, c->path_len);
+    compare(&a, &b, sizeof a);
+    compare_slice(&g);
+    compare_slice(&parents);
+    compare_slice(&marks);
+    compare_slice(&path);
+}
+
+/* A board of this size, and ends that are a few cells apart. */
+static struct route_case good_case(size_t width, size_t height)
+{
+    size_t vertices = (width + 1) * (height + 1);
+    struct route_case c = {width * height, width, height, 0, 0, 0, 0, vertices, vertices, vertices, vertices};
+    board_scattered(&dice, cells.room.ours, width, height, 20);
+    c.sx = below(width + 1), c.sy = below(height + 1);
+    c.gx = width < 8 ? below(width + 1) : c.sx - (c.sx > 2 ? 2 : 0);
+    c.gy = height < 8 ? below(height + 1) : c.sy - (c.sy > 2 ? 2 : 0);
+    return c;
+}
+
+/* What is needed, or one less, or none, and far more. */
+static void stretch(size_t *length)
+{
+    size_t kind = below(6);
+    *length = (kind == 0 ? 0 : kind == 1 ? *length - 1 : *length) + far_lengths[below(LENGTHS)];
+}
+
+static void far_slices(struct route_case c)
+{
+    stretch(&c.g_len);
+    stretch(&c.parents_len);
+    stretch(&c.marks_len);
+    stretch(&c.path_len);
+    compare_route(&c);
+    c.cells_len += far_lengths[below(LENGTHS)];
+    compare_sight(&c);
+    compare_route(&c);
+}
+
+/* One number far beyond, or two. */
+static void far_ends(struct route_case c)
+{
+    size_t *numbers[] = {&c.width, &c.height, &c.sx, &c.sy, &c.gx, &c.gy};
+    for (size_t k = 0; k < 2; k++) {
+        size_t *number = numbers[below(6)];
+        *number += far_numbers[below(NUMBERS)];
+    }
+    compare_sight(&c);
+    compare_route(&c);
+    struct wexxolin_length la = wexxolin_length_between(c.sx, c.sy, c.gx, c.gy), lb = second_length_between(c.sx, c.sy, c.gx, c.gy);
+    compare(&la, &lb, sizeof la);
+    struct wexxolin_direction da = wexxolin_direction_between(c.sx, c.sy, c.gx, c.gy);
+    struct wexxolin_direction db = second_direction_between(c.sx, c.sy, c.gx, c.gy);
+    compare(&da, &db, sizeof da);
+}
+
+/* ---------- jobs ---------- */
+
+static void compare_board(size_t job_len, size_t board_len)
+{
+    snprintf(request, sizeof request, "board read from a job of %zu bytes into a slice of %zu", job_len, board_len);
+    const uint8_t *bytes = room_lend(&job.room, job_len, AT_FRONT);
+    uint8_t *lent = lend(&board, board_len, 1);
+    struct wexxolin_board a = wexxolin_board(bytes, job_len, lent, board_len);
+    struct wexxolin_board b = second_board(bytes, job_len, board.ours, board_len);
+    compare(&a, &b, sizeof a);
+    compare_slice(&board);
+}
+
+static void compare_net(size_t job_len, size_t index)
+{
+    snprintf(request, sizeof request, "net read from a job of %zu bytes at index %zu", job_len, index);
+    const uint8_t *bytes = room_lend(&job.room, job_len, AT_FRONT);
+    struct wexxolin_net a = wexxolin_net(bytes, job_len, index);
+    struct wexxolin_net b = second_net(bytes, job_len, index);
+    compare(&a, &b, sizeof a);
+}
+
+static void far_job(void)
+{
+    static struct job thrown;
+    job_random(&dice, &thrown, 6, 6, 63);
+    memcpy(job.room.ours, thrown.bytes, thrown.length);
+    size_t board_len = below(2) ? MOST_CELLS : below(MOST_CELLS);
+    compare_board(thrown.length, board_len + far_lengths[below(LENGTHS)]);
+    compare_board(thrown.length + far_lengths[below(LENGTHS)], MOST_CELLS);
+    compare_net(thrown.length + far_lengths[below(LENGTHS)], 0);
+    size_t index = below(6);
+    compare_net(thrown.length, index + far_numbers[below(NUMBERS)]);
+}
+
+/* ---------- all ---------- */
+
+int main(int argc, char **argv)
+{
+    static const size_t sizes[][2] = {{1, 1}, {2, 3}, {7, 5}, {1, 63}, {63, 1}, {16, 16}, {63, 63}};
+    size_t scale = argc > 1 ? (size_t)strtoull(argv[1], NULL, 0) : 1;
+    dice = dice_of(argc > 2 ? strtoull(argv[2], NULL, 0) : 1);
+    open_slice(&cells, "cells", 1);
+    open_slice(&g, "g", sizeof(uint64_t));
+    open_slice(&parents, "parents", sizeof(wexxolin_vertex));
+    open_slice(&marks, "marks", 1);
+    open_slice(&path, "path", sizeof(wexxolin_vertex));
+    open_slice(&job, "job", 1);
+    open_slice(&board, "board", 1);
+    rooms_watch(tell_fault);
+    for (size_t k = 0; k < 2100 * scale; k++) {
+        const size_t *size = sizes[k % (sizeof sizes / sizeof *sizes)];
+        far_slices(good_case(size[0], size[1]));
+        far_ends(good_case(size[0], size[1]));
+        far_job();
+    }
+    printf("%-34s %10llu calls compared\n", "far slices and numbers", (unsigned long long)calls);
+    return 0;
+}

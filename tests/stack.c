@@ -1,0 +1,107 @@
+/* Runs the calls on a stack that was painted before, and tells how many of its bytes were changed: what a caller must have.
+
+       stack KIB
+
+   Fails if a call changed more than KIB kibibytes, the figure that include/wexxolin.h states. The call's arguments and the
+   few bytes that start it on its own stack are counted too. */
+#define _GNU_SOURCE
+#include "boards.h"
+#include "rooms.h"
+#include "../include/wexxolin.h"
+
+#include <stdio.h>
+#include <stdlib.h>
+#include <string.h>
+#include <ucontext.h>
+
+enum { SIDE = 63, CELLS = SIDE * SIDE, VERTICES = (SIDE + 1) * (SIDE + 1), STACK = 1 << 20, PAINT = 0xa5 };
+
+static struct dice dice;
+static struct room stack;
+static uint8_t cells[CELLS], marks[VERTICES], board[CELLS];
+static uint64_t g[VERTICES];
+static wexxolin_vertex parents[VERTICES], path[VERTICES];
+static struct job job;
+static size_t from_x, from_y;
+
+/* Set by each call, so that none is left out. */
+static volatile uint64_t number;
+
+static void call_route(void)
+{
+    number = wexxolin_route(cells, CELLS, SIDE, SIDE, from_x, from_y, SIDE, SIDE, g, VERTICES, parents, VERTICES, marks, VERTICES,
+                            path, VERTICES)
+                 .number;
+}
+static void call_sight(void) { number = wexxolin_sight(cells, CELLS, SIDE, SIDE, from_x, from_y, SIDE, SIDE).number; }
+static void call_length(void) { number = wexxolin_length_between(from_x, from_y, SIDE, SIDE).number; }
+static void call_direction(void) { number = wexxolin_direction_between(from_x, from_y, SIDE, SIDE).number; }
+static void call_board(void) { number = wexxolin_board(job.bytes, job.length, board, CELLS).number; }
+static void call_net(void) { number = wexxolin_net(job.bytes, job.length, 254).number; }
+
+/* The bytes of the stack, from its upper end, down to the lowest one that the call changed. */
+static size_t bytes_used(void (*call)(void))
+{
+    ucontext_t here, there;
+    memset(stack.ours, PAINT, STACK);
+    getcontext(&there);
+    there.uc_stack.ss_sp = stack.ours;
+    there.uc_stack.ss_size = STACK;
+    there.uc_link = &here;
+    makecontext(&there, call, 0);
+    swapcontext(&here, &there);
+    size_t unchanged = 0;
+    while (unchanged < STACK && stack.ours[unchanged] == PAINT)
+        unchanged++;
+    return STACK - unchanged;
+}
+
+/* Boards on which the search takes other ways: open ground, dead ends, many and few vertices in its list, no path. */
+static void throw_board(size_t k)
+{
+    switch (k % 6) {
+    case 0: memset(cells, (int)(k / 6 % 2), CELLS); break;
+    case 1: board_maze(&dice, cells, SIDE, SIDE); break;
+    case 2: board_serpentine(&dice, cells, SIDE, SIDE); break;
+    case 3: board_chequered(&dice, cells, SIDE, SIDE, dice_below(&dice, 40)); break;
+    case 4: board_enclose(cells, SIDE, SIDE, SIDE, SIDE); break;
+    default: board_scattered(&dice, cells, SIDE, SIDE, dice_below(&dice, 50)); break;
+    }
+    from_x = k % 3 ? dice_below(&dice, SIDE) : 0;
+    from_y = k % 3 ? dice_below(&dice, SIDE) : 0;
+    job_full(&dice, &job, SIDE, SIDE);
+}
+
+static void tell_fault(const char *where)
+{
+    fprintf(stderr, "DIFFERENCE in group 'stack'\nmore than %d bytes: %s\n", STACK, where);
+    exit(1);
+}
+
+int main(int argc, char **argv)
+{
+    static const struct {
+        const char *name;
+        void (*call)(void);
+    } calls[] = {{"route", call_route},   {"sight", call_sight}, {"length", call_length}, {"direction", call_direction},
+                 {"board", call_board}, {"net", call_net}};
+    size_t limit = argc > 1 ? 1024 * (size_t)strtoull(argv[1], NULL, 0) : 0, over = 0;
+    dice = dice_of(1);
+    room_open(&stack, "stack", STACK, WRITABLE);
+    rooms_watch(tell_fault);
+    printf("bytes of stack, at most %zu:", limit);
+    for (size_t i = 0; i < sizeof calls / sizeof *calls; i++) {
+        size_t most = 0;
+        for (size_t k = 0; k < 60; k++) {
+            throw_board(k);
+            size_t used = bytes_used(calls[i].call);
+            most = used > most ? used : most;
+        }
+        printf(" %s %zu", calls[i].name, most);
+        over += most > limit;
+    }
+    printf("\n");
+    if (over)
+        fprintf(stderr, "DIFFERENCE in group 'stack'\nmore than the %zu bytes that include/wexxolin.h states\n", limit);
+    return over != 0;
+}
