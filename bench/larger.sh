@@ -1,5 +1,5 @@
 #!/bin/sh
-# larger.sh SIDE [NETS]: the rows of run.sh for boards of 127, 255 or 511 cells a side. The limits are changed in a copy of the
+# larger.sh SIDE [NETS]: rows of run.sh for boards of 127, 255 or 511 cells a side, on 8 nets and with 0, 30 and 40 in 100 blocked. The limits are changed in a copy of the
 # tree (target/larger-SIDE), the library is proved and built there, and the fast router is compiled with the same limit.
 # Of the crates only those below capi are copied: what states the limit itself, route and worked, stays out.
 set -eu
@@ -50,4 +50,4 @@ changed include/wexxolin.h "typedef uint16_t wexxolin_vertex;" "typedef uint${bi
 
 cd "$copy"
 rt staticlib capi >&2
-OUT=$copy/target/outside SIDE=$side exec bench/run.sh "${2:-64}"
+OUT=$copy/target/outside SIDE=$side PERCENTS=${PERCENTS:-0 30 40} exec bench/run.sh "${2:-8}"

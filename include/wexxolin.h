@@ -57,7 +57,7 @@ struct wexxolin_direction wexxolin_direction_between(size_t ax, size_t ay, size_
 
 /* The route from (sx, sy) to (gx, gy). vertices is the number of entries written to path. Refusals 1 to 7; 8 is no path.
    g, parents and marks need (width + 1) * (height + 1) entries; 64 * 64 always suffice, for path too. After 0, 7 and 8 they hold
-   each vertex's length from the start, its parent and its mark: 0 unseen, 1 open, 2 expanded. It needs about 54 KiB of stack (measured). */
+   each vertex's length from the start, its parent and its mark: 0 unseen, 1 open, 2 expanded. It needs at most 51 KiB of stack (measured). */
 struct wexxolin_route {
     uint64_t number, place;
     double cells;

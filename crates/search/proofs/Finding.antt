@@ -166,22 +166,22 @@ module _ {cells : List ℕ} {q : Request} (A : Asked cells q) where
     same-contest = rw (column-number (q .width) (q .gx) (q .gy) (A .goal .x-on), row-number (q .width) (q .gx) (q .gy) (A .goal .x-on)) refl
 
     -- the first of the open list is v, with this f
-    module _ {v f : ℕ} (v-is : v ≡ at leads 1) (f-is : f ≡ at keys 1) where
+    module _ {v f : ℕ} (first : (v ≡ at leads 1) × (f ≡ at keys 1)) where
       abbrev n : ℕ
       n = (asked cells q) .size
 
       picked : f ≢ noKey → v ≡ least (contestOf (asked cells q) s) n
       unfolding problem
-      picked d = v-is ∙ listed-least goal-sited (W .listed) (λ z. d (f-is ∙ z)) ∙ ap (λ (C : Contest). least C (sizeOf q)) same-contest
+      picked d = first .0 ∙ listed-least goal-sited (W .listed) (λ z. d (first .1 ∙ z)) ∙ ap (λ (C : Contest). least C (sizeOf q)) same-contest
 
       board : f ≢ noKey → v ≢ n
       unfolding problem
-      board d z′ = omega (arith, listed-on goal-sited (W .listed) (λ z. d (f-is ∙ z)))
+      board d z′ = omega (arith, listed-on goal-sited (W .listed) (λ z. d (first .1 ∙ z)))
 
       pub finding-none : f ≡ noKey → whole ≡ record { found = false; state = s }
       unfolding problem
       finding-none z =
-          let l = listed-none goal-sited (W .listed) (sym f-is ∙ z) in
+          let l = listed-none goal-sited (W .listed) (sym (first .1) ∙ z) in
           going-nothing fair (W .going)
           (chosen-nothing (asked cells q) s n (sym l ∙ ap (λ (C : Contest). least C (sizeOf q)) same-contest) refl)
 

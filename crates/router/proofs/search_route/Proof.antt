@@ -39,18 +39,6 @@ left k =
 work : (c : tie.After-find) → Work (wanted (began c)) (theta.search (wanted (began c)) .state)
 work c = let s = began c in board-work (asked s) (s .args .sx) (s .args .sy) (s .args .gx) (s .args .gy) (s .pre .start)
 
-find-requires : tie.Need-find-requires
-find-requires c κs = search needs
-
-same-length : tie.Need-same-length
-same-length c = search needs
-
-same-length-2 : tie.Need-same-length-2
-same-length-2 c = search needs
-
-same-length-3 : tie.Need-same-length-3
-same-length-3 c = search needs
-
 returns : tie.Need-returns
 returns c =
     let k = c .before .before .before .before .before .before .before .before in
@@ -64,18 +52,6 @@ found : (e : tie.Else1) → let k = ran e in Searched (wanted (began k)) (lent (
 found e =
     let k = ran e in
     as-found {p = wanted (began k)} {before = lent (began k)} {after = left k} (not-false (k .find .result .found) (e .if1 .left)) (k .find .ensures)
-
-number-of-requires : tie.Need-number-of-requires
-number-of-requires c κs = search needs
-
-number-of-requires-2 : tie.Need-number-of-requires-2
-number-of-requires-2 c κs = search needs
-
-cast-units : tie.Need-cast-units
-cast-units c = search needs
-
-mul-units : tie.Need-mul-units
-mul-units c = search needs
 
 slice-read-units : tie.Need-slice-read-units
 unfolding problem
@@ -95,18 +71,6 @@ tell-path-requires c κs =
       found-exact (s .pre .start) (a .gx) (a .gy) {before = lent s} {after = left k} (found e) (s .pre .sound),
     )
 
-same-length-4 : tie.Need-same-length-4
-same-length-4 c = search needs
-
-same-length-5 : tie.Need-same-length-5
-same-length-5 c = search needs
-
-same-length-6 : tie.Need-same-length-6
-same-length-6 c = search needs
-
-same-length-7 : tie.Need-same-length-7
-same-length-7 c = search needs
-
 returns-2 : tie.Need-returns-2
 unfolding problem
 returns-2 c =
@@ -125,19 +89,19 @@ pub search-route-spec : {M : Type 1} → statement M
 search-route-spec =
     tie.close
     (tie.spec
-    find-requires
-    same-length
-    same-length-2
-    same-length-3
+    (λ c κs. search needs)
+    (λ c. search needs)
+    (λ c. search needs)
+    (λ c. search needs)
     returns
-    number-of-requires
-    number-of-requires-2
-    cast-units
-    mul-units
+    (λ c κs. search needs)
+    (λ c κs. search needs)
+    (λ c. search needs)
+    (λ c. search needs)
     slice-read-units
     tell-path-requires
-    same-length-4
-    same-length-5
-    same-length-6
-    same-length-7
+    (λ c. search needs)
+    (λ c. search needs)
+    (λ c. search needs)
+    (λ c. search needs)
     returns-2)

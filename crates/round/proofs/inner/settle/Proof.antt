@@ -24,36 +24,24 @@ on s =
 open-vertex-requires : tie.Need-open-vertex-requires
 open-vertex-requires c κs = let s = c .before .before .before .before .before .before .before .before .before .before in (s .pre .0 .sited, (s .pre .0 .lower, (s .pre .1 .0, s .pre .1 .1)))
 
--- the start, from where the vertex is open
+-- the places on the way: the vertex is open, the start
+abbrev opened : tie.After-slice-known9 → tie.After-open-vertex
+opened c = c .before .before .before .before .before .before .before .before
+
 abbrev start : tie.After-open-vertex → tie.Start
 start o = o .before .before .before .before .before .before .before .before .before .before .before
 
 cast-parents : tie.Need-cast-parents
-cast-parents c = let s = start (c .before .before .before .before .before .before .before .before) in omega (arith, s .pre .0 .on-parent, on s, few s, vertices-fit)
+cast-parents c = let s = start (opened c) in omega (arith, s .pre .0 .on-parent, on s, few s, vertices-fit)
 
 mul-parents : tie.Need-mul-parents
-mul-parents c = let s = start (c .before .before .before .before .before .before .before .before) in omega (arith, on s, few s)
+mul-parents c = let s = start (opened c) in omega (arith, on s, few s)
 
 slice-write-parents : tie.Need-slice-write-parents
-slice-write-parents c = let s = start (c .before .before .before .before .before .before .before .before) in omega (arith, on s, s .pre .0 .room-p)
-
-same-length : tie.Need-same-length
-same-length c = search needs
-
-same-length-2 : tie.Need-same-length-2
-same-length-2 c = search needs
-
-same-length-3 : tie.Need-same-length-3
-same-length-3 c = search needs
-
-same-length-4 : tie.Need-same-length-4
-same-length-4 c = search needs
-
-same-length-5 : tie.Need-same-length-5
-same-length-5 c = search needs
+slice-write-parents c = let s = start (opened c) in omega (arith, on s, s .pre .0 .room-p)
 
 returns : tie.Need-returns
-returns c = let O = c .before .before .before .before .before .before .before .before .open-vertex .ensures in record { g-is = O .g-is; parent-is = refl; mark-is = O .mark-is; listed = O .listed }
+returns c = let O = opened c .open-vertex .ensures in record { g-is = O .g-is; parent-is = refl; mark-is = O .mark-is; listed = O .listed }
 
 pub settle-spec : {M : Type 1} → statement M
 settle-spec =
@@ -63,9 +51,9 @@ settle-spec =
     cast-parents
     mul-parents
     slice-write-parents
-    same-length
-    same-length-2
-    same-length-3
-    same-length-4
-    same-length-5
+    (λ c. search needs)
+    (λ c. search needs)
+    (λ c. search needs)
+    (λ c. search needs)
+    (λ c. search needs)
     returns)

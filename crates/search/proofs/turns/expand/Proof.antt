@@ -19,17 +19,11 @@ start u = u .before .before .before .before .before .before .before .before
 cast-spot-of : tie.Need-cast-spot-of
 cast-spot-of c = let s = c .before .before .before .before .before .before .before in omega (arith, taking-on (s .pre .1 .0), few s, vertices-fit)
 
-spot-of-requires : tie.Need-spot-of-requires
-spot-of-requires c κs = search needs
-
 mul-spot-of : tie.Need-mul-spot-of
 mul-spot-of c = let s = start c in omega (arith, taking-on (s .pre .1 .0), few s)
 
 slice-read-spot-of : tie.Need-slice-read-spot-of
 slice-read-spot-of c = let s = start (c .before) in omega (arith, taking-on (s .pre .1 .0))
-
-spot-of-requires-2 : tie.Need-spot-of-requires-2
-spot-of-requires-2 c κs = search needs
 
 close-vertex-requires : tie.Need-close-vertex-requires
 close-vertex-requires c κs =
@@ -52,21 +46,6 @@ round-requires c κs =
       (s .pre .1 .1 .0, (o .close-vertex .ensures .listed, s .pre .1 .1 .1 .1)),
     )
 
-same-length : tie.Need-same-length
-same-length c = search needs
-
-same-length-2 : tie.Need-same-length-2
-same-length-2 c = search needs
-
-same-length-3 : tie.Need-same-length-3
-same-length-3 c = search needs
-
-same-length-4 : tie.Need-same-length-4
-same-length-4 c = search needs
-
-same-length-5 : tie.Need-same-length-5
-same-length-5 c = search needs
-
 returns : tie.Need-returns
 returns c =
     let r = c .before .before .before .before .before .before .before .before .before .before in
@@ -79,15 +58,15 @@ expand-spec =
     tie.close
     (tie.spec
     cast-spot-of
-    spot-of-requires
+    (λ c κs. search needs)
     mul-spot-of
     slice-read-spot-of
-    spot-of-requires-2
+    (λ c κs. search needs)
     close-vertex-requires
     round-requires
-    same-length
-    same-length-2
-    same-length-3
-    same-length-4
-    same-length-5
+    (λ c. search needs)
+    (λ c. search needs)
+    (λ c. search needs)
+    (λ c. search needs)
+    (λ c. search needs)
     returns)

@@ -51,34 +51,43 @@ first-requires c κs =
     root-room (q .width) (q .height) (A .narrow) (A .low) (l .turns .inv .0 .listed .played)
 
 -- nothing is open
-returns : tie.Need-returns Inv-turns μ-turns
-returns c = let l = c .before .before .before .before .before in finding-none (start l .pre .0) (l .turns .inv .0) (c .before .before .first .ensures .0) (c .before .before .first .ensures .1) (c .if1 .taken)
+abbrev empty : tie.Then1 Inv-turns μ-turns → tie.At-turns Inv-turns μ-turns
+empty c = c .before .before .before .before .before
 
--- the places on the way: a vertex has been expanded, it is taken, its turn begins
+returns : tie.Need-returns Inv-turns μ-turns
+returns c = let l = empty c in finding-none (start l .pre .0) (l .turns .inv .0) (c .before .before .first .ensures) (c .if1 .taken)
+
+-- the places on the way: a vertex has been expanded, it is taken, the first of the open list is known, its turn begins
 abbrev behind : tie.After-slice-known10 Inv-turns μ-turns → tie.After-expand Inv-turns μ-turns
 behind c = c .before .before .before .before .before .before .before .before .before .before
 
 abbrev taken : tie.After-expand Inv-turns μ-turns → tie.Else2 Inv-turns μ-turns
 taken o = o .before .before .before .before .before .before
 
+abbrev leader : tie.Else2 Inv-turns μ-turns → tie.After-first Inv-turns μ-turns
+leader k = k .before .before .before
+
 abbrev turn : tie.Else2 Inv-turns μ-turns → tie.At-turns Inv-turns μ-turns
-turn k = k .before .before .before .before .before .before
+turn k = leader k .before .before .before
 
 -- a vertex is taken that is not the goal
-not-goal : (k : tie.Else2 Inv-turns μ-turns) → let q = start (turn k) .args .request in k .before .before .before .first .result .vertex ≢ numberOf (q .width) (q .gx) (q .gy)
+not-goal : (k : tie.Else2 Inv-turns μ-turns) → let q = start (turn k) .args .request in leader k .first .result .vertex ≢ numberOf (q .width) (q .gx) (q .gy)
 not-goal k e = k .if2 .left (e ∙ sym (turn k .before .number-of .ensures))
 
 -- the goal is first
+abbrev arrived : tie.Then2 Inv-turns μ-turns → tie.At-turns Inv-turns μ-turns
+arrived c = c .before .before .before .before .before .before
+
 returns-2 : tie.Need-returns-2 Inv-turns μ-turns
 returns-2 c =
-    let l = c .before .before .before .before .before .before in
-    finding-found (start l .pre .0) (l .turns .inv .0) (c .before .before .before .first .ensures .0) (c .before .before .before .first .ensures .1) (c .before .if1 .left) (c .if2 .taken ∙ l .before .number-of .ensures)
+    let l = arrived c in
+    finding-found (start l .pre .0) (l .turns .inv .0) (c .before .before .before .first .ensures) (c .before .if1 .left) (c .if2 .taken ∙ l .before .number-of .ensures)
 
 -- fewer are expanded than there are
 more : (k : tie.Else2 Inv-turns μ-turns) → let l = turn k in l .turns .expansions + 1 ≤ sizeOf (start l .args .request)
 more k =
     let l = turn k in
-    omega (arith, finding-room (start l .pre .0) (l .turns .inv .0) (k .before .before .before .first .ensures .0) (k .before .before .before .first .ensures .1) (k .before .if1 .left) (not-goal k))
+    omega (arith, finding-room (start l .pre .0) (l .turns .inv .0) (leader k .first .ensures) (k .before .if1 .left) (not-goal k))
 
 add-expansions : tie.Need-add-expansions Inv-turns μ-turns
 add-expansions c = let l = turn c in let s = start l in omega (arith, more c, few s)
@@ -91,7 +100,7 @@ expand-requires c κs =
     let W = l .turns .inv .0 in (
       A,
       (
-        finding-taking A W (k .before .before .before .first .ensures .0) (k .before .before .before .first .ensures .1) (k .before .if1 .left) (not-goal k),
+        finding-taking A W (leader k .first .ensures) (k .before .if1 .left) (not-goal k),
         (finding-tests A W, (W .listed, start l .pre .1 .1 .1)),
       ),
     )
@@ -108,43 +117,13 @@ turns-again c =
     let o = behind c in
     let k = taken o in
     let l = turn k in (
-      finding-next (start l .pre .0) (l .turns .inv .0) (k .before .before .before .first .ensures .0) (k .before .before .before .first .ensures .1) (k .before .if1 .left) (not-goal k) {r = expanded o} (o .expand .ensures .0) (o .expand .ensures .1),
+      finding-next (start l .pre .0) (l .turns .inv .0) (leader k .first .ensures) (k .before .if1 .left) (not-goal k) {r = expanded o} (o .expand .ensures .0) (o .expand .ensures .1),
       o .expand .kept .1 .1 .1 .1 .0 ∙ l .turns .inv .1,
       o .expand .kept .1 .1 .1 .1 .1 .0 ∙ l .turns .inv .2,
       o .expand .kept .1 .1 .1 .1 .1 .1 .0 ∙ l .turns .inv .3,
       o .expand .kept .1 .1 .1 .1 .1 .1 .1 .0 ∙ l .turns .inv .4,
       o .expand .kept .1 .1 .1 .1 .1 .1 .1 .1 .0 ∙ l .turns .inv .5,
     )
-
-same-length : tie.Need-same-length Inv-turns μ-turns
-same-length c = c .before .before .before .before .before .turns .inv .1
-
-same-length-2 : tie.Need-same-length-2 Inv-turns μ-turns
-same-length-2 c = c .before .before .before .before .before .turns .inv .2
-
-same-length-3 : tie.Need-same-length-3 Inv-turns μ-turns
-same-length-3 c = c .before .before .before .before .before .turns .inv .3
-
-same-length-4 : tie.Need-same-length-4 Inv-turns μ-turns
-same-length-4 c = c .before .before .before .before .before .turns .inv .4
-
-same-length-5 : tie.Need-same-length-5 Inv-turns μ-turns
-same-length-5 c = c .before .before .before .before .before .turns .inv .5
-
-same-length-6 : tie.Need-same-length-6 Inv-turns μ-turns
-same-length-6 c = c .before .before .before .before .before .before .turns .inv .1
-
-same-length-7 : tie.Need-same-length-7 Inv-turns μ-turns
-same-length-7 c = c .before .before .before .before .before .before .turns .inv .2
-
-same-length-8 : tie.Need-same-length-8 Inv-turns μ-turns
-same-length-8 c = c .before .before .before .before .before .before .turns .inv .3
-
-same-length-9 : tie.Need-same-length-9 Inv-turns μ-turns
-same-length-9 c = c .before .before .before .before .before .before .turns .inv .4
-
-same-length-10 : tie.Need-same-length-10 Inv-turns μ-turns
-same-length-10 c = c .before .before .before .before .before .before .turns .inv .5
 
 pub run-spec : {M : Type 1} → statement M
 run-spec =
@@ -160,15 +139,15 @@ run-spec =
     expand-requires
     turns-less
     turns-again
-    same-length
-    same-length-2
-    same-length-3
-    same-length-4
-    same-length-5
+    (λ c. empty c .turns .inv .1)
+    (λ c. empty c .turns .inv .2)
+    (λ c. empty c .turns .inv .3)
+    (λ c. empty c .turns .inv .4)
+    (λ c. empty c .turns .inv .5)
     returns
-    same-length-6
-    same-length-7
-    same-length-8
-    same-length-9
-    same-length-10
+    (λ c. arrived c .turns .inv .1)
+    (λ c. arrived c .turns .inv .2)
+    (λ c. arrived c .turns .inv .3)
+    (λ c. arrived c .turns .inv .4)
+    (λ c. arrived c .turns .inv .5)
     returns-2)
