@@ -573,7 +573,8 @@ static struct wexxolin_board compare_board(const struct job *job, size_t board_l
     struct wexxolin_board b = second_board(job->bytes, job->length, b_board + PAD, board_len);
     count(5 + all);
     size_t behind = PAD + (b.number == 0 ? (size_t)(b.width * b.height) : 0);
-    int same = a.number == b.number && a.place == b.place && a.second == b.second && a.width == b.width && a.height == b.height && a.nets == b.nets;
+    int same = a.number == b.number && a.place == b.place && a.second == b.second && a.width == b.width && a.height == b.height &&
+               a.nets == b.nets;
     int kept = memcmp(a_board, old, PAD) == 0 && memcmp(a_board + behind, old + behind, all - behind) == 0;
     int untouched = memcmp(job_before, job->bytes, job->length) == 0;
     if (same && kept && untouched && memcmp(a_board, b_board, all) == 0)
