@@ -1,5 +1,5 @@
 -- `faults::kinds::stray_byte` finds the lowest unused byte that is not 0. The loop's invariant: it is known, or none before is.
-use Prim.Native.Nat.{_-_, _≤_}
+use Prim.Native.Nat.{_+_, _-_, _≤_}
 use mathlib.Core.Path.{_≡_}
 use mathlib.Core.Logic.{⊎-elim}
 use native.Mathlib.Omega.{arith}
@@ -29,10 +29,13 @@ loop-less c = omega arith
 
 loop-again : tie.Need-loop-again Inv-loop μ-loop
 loop-again c =
-    let at = c .before .before in
-    let l = at .before .loop in
-    let s = at .is-stray .ensures in
-    (omega arith, ⊎-elim (λ w. rw (w .1) (lowest-found _ _ _ s (omega arith) (w .0 .taken) (l .inv .1))) (λ w. rw (w .1) (lowest-kept _ _ _ s (w .0 .left) (l .inv .1))) (c .if1 .came))
+    let at = c .before .before .before in
+    let l = at .loop in
+    let a = at .before .before .args in
+    let s = c .before .is-stray .ensures in
+    let next : Lowest (a .job .now) (usedBy (a .kind)) (a .i) (l .k + 1) (c .if1 .lowest) =
+    ⊎-elim (λ w. rw (w .1) (lowest-found _ _ _ s (omega arith) (w .0 .taken) (l .inv .1))) (λ w. rw (w .1) (lowest-kept _ _ _ s (w .0 .left) (l .inv .1))) (c .if1 .came) in
+    (omega arith, next)
 
 returns : tie.Need-returns Inv-loop μ-loop
 returns c =
