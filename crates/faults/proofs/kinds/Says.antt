@@ -32,7 +32,13 @@ pub data Says (job : List ℕ) (i : ℕ) : Record → Type 0 where
 abbrev pub isKnown : (kind : ℕ) → Bool
 isKnown kind = eqb kind 1 || (eqb kind 2 || eqb kind 3)
 
--- one that is known, and not the first two, is the third
+-- a record of a known type with no stray byte
+pub record Neat (job : List ℕ) (i kind : ℕ) : Type 0 where
+  pub type-is : kind ≡ byte job i 0
+  pub known : isKnown kind ≡ true
+  pub tidy : isUntidy job i ≡ false
+
+-- a type that is known, and not the first two, is the third
 typed : (b k n : Bool) → (b || (k || n)) ≡ true → b ≡ false → k ≡ false → n ≡ true
 typed b k n h p q = rw (p, q) at h
 
@@ -81,23 +87,24 @@ module _ (job : List ℕ) (i : ℕ) where
           let u : isUnknown job i ≡ false = rw (t, typed-so) in
           rw (found, u, e)
 
-      module _ (tidy : recordBytes ≤ stray) where
-        neat : isUntidy job i ≡ false
-        neat = rw (sym found) (le-ltb stray recordBytes tidy)
+      pub is-neat : recordBytes ≤ stray → Neat job i kind
+      is-neat l = record { type-is = known; known = typed-so; tidy = rw (sym found) (le-ltb stray recordBytes l) }
 
-        -- with its numbers as they were read
-        pub says-board : {w h : ℕ} → kind ≡ 1 → w ≡ coordinate job i 2 → h ≡ coordinate job i 3 → Board w h ≡ recordAt job i
-        unfolding recordAt
-        says-board t x y = rw (x, y, neat, sym known ∙ t)
+-- ---- what a neat one says, with its numbers as they were read
 
-        pub says-keepout : {a b c d : ℕ} → kind ≡ 2 → a ≡ left job i → b ≡ top job i → c ≡ right job i → d ≡ bottom job i
-            → Keepout a b c d ≡ recordAt job i
-        unfolding recordAt
-        says-keepout t x y x′ y′ = rw (x, y, x′, y′, neat, sym known ∙ t)
+module _ {job : List ℕ} {i kind : ℕ} (r : Neat job i kind) where
+  pub says-board : {w h : ℕ} → kind ≡ 1 → w ≡ coordinate job i 2 → h ≡ coordinate job i 3 → Board w h ≡ recordAt job i
+  unfolding recordAt
+  says-board t x y = rw (x, y, r .tidy, sym (r .type-is) ∙ t)
 
-        pub says-net : {n a b c d : ℕ} → (kind ≡ 1 → ⊥) → (kind ≡ 2 → ⊥) → n ≡ netAt job i .number → a ≡ netAt job i .sx → b ≡ netAt job i .sy
-            → c ≡ netAt job i .gx → d ≡ netAt job i .gy → Net n a b c d ≡ recordAt job i
-        unfolding recordAt
-        says-net o k m x y x′ y′ =
-            let t = eqb-true kind 3 (typed (eqb kind 1) (eqb kind 2) (eqb kind 3) typed-so (ne-eqb kind 1 o) (ne-eqb kind 2 k)) in
-            rw (m, x, y, x′, y′, neat, sym known ∙ t)
+  pub says-keepout : {a b c d : ℕ} → kind ≡ 2 → a ≡ left job i → b ≡ top job i → c ≡ right job i → d ≡ bottom job i
+      → Keepout a b c d ≡ recordAt job i
+  unfolding recordAt
+  says-keepout t x y x′ y′ = rw (x, y, x′, y′, r .tidy, sym (r .type-is) ∙ t)
+
+  pub says-net : {n a b c d : ℕ} → (kind ≡ 1 → ⊥) → (kind ≡ 2 → ⊥) → n ≡ netAt job i .number → a ≡ netAt job i .sx → b ≡ netAt job i .sy
+      → c ≡ netAt job i .gx → d ≡ netAt job i .gy → Net n a b c d ≡ recordAt job i
+  unfolding recordAt
+  says-net o k m x y x′ y′ =
+      let t = eqb-true kind 3 (typed (eqb kind 1) (eqb kind 2) (eqb kind 3) (r .known) (ne-eqb kind 1 o) (ne-eqb kind 2 k)) in
+      rw (m, x, y, x′, y′, r .tidy, sym (r .type-is) ∙ t)

@@ -1,9 +1,10 @@
 -- `faults::kinds::record_at` says what the definition says.
 use mathlib.Core.Path.{_≡_}
 use mathlib.Core.Bool.{true}
+use denote.Ref.{now}
 use borrow.Author.Needs.{needs}
 use borrow.Author.Tests.{not-true, not-false}
-use Rattle.faults.proofs.kinds.Says.{isKnown, says-unknown, says-unused, says-board, says-keepout, says-net}
+use Rattle.faults.proofs.kinds.Says.{isKnown, Neat, says-unknown, says-unused, is-neat, says-board, says-keepout, says-net}
 use Rattle.faults.proofs.kinds.record_at.Statement.{statement}
 use Rattle.faults.proofs.kinds.record_at.Tie as tie
 
@@ -49,29 +50,28 @@ coordinate-of-requires-4 c κs = search needs
 abbrev tidied : tie.After-coordinate-of4 → tie.Else2
 tidied c = c .before .before .before .before .before
 
+neat : (c : tie.Else2) → (let r = read (c .before) in let a = r .before .before .args in Neat (now (a .job)) (a .i) (r .byte-of .result))
+neat c = let e = c .before in is-neat _ _ (read e .byte-of .ensures) (e .before .stray-byte .ensures) (known e) (c .if2 .left)
+
 returns-3 : tie.Need-returns-3
 returns-3 c =
     let to-y = c .before in
-    let tidy = tidied to-y in
-    let e = tidy .before in
     let y = to-y .before .before in
-    says-board _ _ (read e .byte-of .ensures) (e .before .stray-byte .ensures) (known e) (tidy .if2 .left) (c .if3 .taken) (y .before .coordinate-of .ensures) (y .coordinate-of2 .ensures)
+    says-board (neat (tidied to-y)) (c .if3 .taken) (y .before .coordinate-of .ensures) (y .coordinate-of2 .ensures)
 
 returns-4 : tie.Need-returns-4
 returns-4 c =
     let to-y = c .before .before in
-    let tidy = tidied to-y in
-    let e = tidy .before in
     let y = to-y .before .before in
-    says-keepout _ _ (read e .byte-of .ensures) (e .before .stray-byte .ensures) (known e) (tidy .if2 .left) (c .if4 .taken) (y .before .coordinate-of .ensures) (y .coordinate-of2 .ensures) (to-y .before .coordinate-of3 .ensures) (to-y .coordinate-of4 .ensures)
+    says-keepout (neat (tidied to-y)) (c .if4 .taken) (y .before .coordinate-of .ensures) (y .coordinate-of2 .ensures)
+    (to-y .before .coordinate-of3 .ensures) (to-y .coordinate-of4 .ensures)
 
 returns-5 : tie.Need-returns-5
 returns-5 c =
     let to-y = c .before .before in
-    let tidy = tidied to-y in
-    let e = tidy .before in
     let y = to-y .before .before in
-    says-net _ _ (read e .byte-of .ensures) (e .before .stray-byte .ensures) (known e) (tidy .if2 .left) (c .before .if3 .left) (c .if4 .left) (y .before .before .byte-of2 .ensures) (y .before .coordinate-of .ensures) (y .coordinate-of2 .ensures) (to-y .before .coordinate-of3 .ensures) (to-y .coordinate-of4 .ensures)
+    says-net (neat (tidied to-y)) (c .before .if3 .left) (c .if4 .left) (y .before .before .byte-of2 .ensures)
+    (y .before .coordinate-of .ensures) (y .coordinate-of2 .ensures) (to-y .before .coordinate-of3 .ensures) (to-y .coordinate-of4 .ensures)
 
 pub record-at-spec : {M : Type 1} → statement M
 record-at-spec =

@@ -34,7 +34,10 @@ loop-again c =
     let a = at .before .before .args in
     let s = c .before .is-stray .ensures in
     let next : Lowest (a .job .now) (usedBy (a .kind)) (a .i) (l .k + 1) (c .if1 .lowest) =
-    ⊎-elim (λ w. rw (w .1) (lowest-found _ _ _ s (omega arith) (w .0 .taken) (l .inv .1))) (λ w. rw (w .1) (lowest-kept _ _ _ s (w .0 .left) (l .inv .1))) (c .if1 .came) in
+    ⊎-elim
+    (λ w. rw (w .1) (lowest-found _ _ _ s (omega arith) (w .0 .taken) (l .inv .1)))
+    (λ w. rw (w .1) (lowest-kept _ _ _ s (w .0 .left) (l .inv .1)))
+    (c .if1 .came) in
     (omega arith, next)
 
 returns : tie.Need-returns Inv-loop μ-loop
