@@ -186,7 +186,7 @@ INLINE int walk(const uint8_t *a, const uint8_t *b, int dx, int dy)
 struct wexxolin_sight fast_sight(const uint8_t *cells, size_t cells_len, size_t width, size_t height,
                                  size_t ax, size_t ay, size_t bx, size_t by)
 {
-    struct wexxolin_sight answer = {0, 0, 0};
+    struct wexxolin_sight answer = {0, 0, 0, 0};
     struct field field;
     answer.number = refusal(&field, cells, cells_len, width, height, ax, ay, bx, by, &answer.place);
     if (answer.number == 0)
@@ -397,7 +397,7 @@ struct wexxolin_route fast_route(const uint8_t *cells, size_t cells_len, size_t 
                                  uint64_t *g, size_t g_len, wexxolin_vertex *parents, size_t parents_len,
                                  uint8_t *marks, size_t marks_len, wexxolin_vertex *path, size_t path_len)
 {
-    struct wexxolin_route answer = {0, 0, 0.0, 0, 0, 0, 0};
+    struct wexxolin_route answer = {0, 0, 0, 0.0, 0, 0, 0, 0};
 #if LARGEST_SIDE > 127
     static _Thread_local /* too large for a stack */
 #endif

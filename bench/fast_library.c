@@ -32,7 +32,7 @@ static uint64_t far_vertex(size_t ax, size_t ay, size_t bx, size_t by)
 static struct wexxolin_length length(uint64_t number, int dx, int dy)
 {
     uint64_t units = number ? 0 : fast_units(dx, dy);
-    return (struct wexxolin_length){number, 0, units, (double)units * 0x1p-20};
+    return (struct wexxolin_length){number, 0, 0, units, (double)units * 0x1p-20};
 }
 
 static struct wexxolin_direction direction(uint64_t number, int dx, int dy)
@@ -40,9 +40,9 @@ static struct wexxolin_direction direction(uint64_t number, int dx, int dy)
     if (number == 0 && !(dx | dy))
         number = 9;
     if (number)
-        return (struct wexxolin_direction){number, 0, 0, 0};
+        return (struct wexxolin_direction){number, 0, 0, 0, 0};
     double u = (double)fast_units(dx, dy);
-    return (struct wexxolin_direction){0, 0, dx * 0x1p20 / u, dy * 0x1p20 / u};
+    return (struct wexxolin_direction){0, 0, 0, dx * 0x1p20 / u, dy * 0x1p20 / u};
 }
 
 struct wexxolin_length wexxolin_length(int32_t dx, int32_t dy) { return length(far_difference(dx, dy), dx, dy); }
@@ -60,7 +60,7 @@ struct wexxolin_direction wexxolin_direction_between(size_t ax, size_t ay, size_
 }
 
 struct job {
-    uint64_t number, place;
+    uint64_t number, place, second;
     unsigned width, height;
     size_t first_net, records;
 };
@@ -70,7 +70,7 @@ static const uint8_t unused[4] = {0xff, 0xf2, 0xc2, 0xc0};
 
 static struct job read_job(const uint8_t *bytes, size_t length)
 {
-    struct job job = {0, 0, 0, 0, 0, length / 8};
+    struct job job = {0, 0, 0, 0, 0, 0, length / 8};
     if (length > 8192 || length % 8)
         return job.number = length > 8192 ? 10 : 11, job;
     if (length == 0)
@@ -83,9 +83,10 @@ static struct job read_job(const uint8_t *bytes, size_t length)
         job.number = 13;
         if (r[0] == 0 || r[0] > 3)
             return job;
-        for (int i = 1; i < 8; i++)
+        job.number = 23;
+        for (unsigned i = 1; i < 8; i++)
             if (r[i] && unused[r[0]] >> i & 1)
-                return job;
+                return job.second = i, job;
         job.number = 12;
         if ((n == 0) != (r[0] == 1))
             return job;
@@ -125,12 +126,12 @@ struct wexxolin_board wexxolin_board(const uint8_t *bytes, size_t length, uint8_
     if (job.number == 0 && board_len < count)
         job.number = 19;
     if (job.number)
-        return (struct wexxolin_board){job.number, job.place, 0, 0, 0};
+        return (struct wexxolin_board){job.number, job.place, job.second, 0, 0, 0};
     memset(board, 0, count);
     for (const uint8_t *r = bytes + 8; r < bytes + 8 * job.first_net; r += 8)
         for (unsigned y = r[3]; y < r[5]; y++)
             memset(board + y * job.width + r[2], 1, (size_t)(r[4] - r[2]));
-    return (struct wexxolin_board){0, 0, job.width, job.height, job.records - job.first_net};
+    return (struct wexxolin_board){0, 0, 0, job.width, job.height, job.records - job.first_net};
 }
 
 struct wexxolin_net wexxolin_net(const uint8_t *bytes, size_t length, size_t index)
@@ -139,7 +140,7 @@ struct wexxolin_net wexxolin_net(const uint8_t *bytes, size_t length, size_t ind
     if (job.number == 0 && index >= job.records - job.first_net)
         job.number = 20;
     if (job.number)
-        return (struct wexxolin_net){job.number, job.place, 0, 0, 0, 0, 0};
+        return (struct wexxolin_net){job.number, job.place, job.second, 0, 0, 0, 0, 0};
     const uint8_t *r = bytes + 8 * (job.first_net + index);
-    return (struct wexxolin_net){0, 0, r[1], r[2], r[3], r[4], r[5]};
+    return (struct wexxolin_net){0, 0, 0, r[1], r[2], r[3], r[4], r[5]};
 }

@@ -1,11 +1,11 @@
 /* Wexxolin for C: line of sight, leg length and direction, the route search and the job reader, as proved.
 
-   Every call takes every input and hands back document 01's number and place. A value is 0 where its row has none, so it is 0
-   with every refusal. The place is 0 but where it is said:
+   Every call takes every input, and every struct begins with the number that it hands back, its place and its second place. A
+   value is 0 where its row has none, so it is 0 with every refusal. The places are 0 but where it is said:
 
       0  accepted; for a route, a path found             11  job length no multiple of 8
       1  width or height outside 1 to 63                 12  record 0 is not a board, or a later one is (place: record)
-      2  number of cells is not width * height           13  unknown type, or an unused byte not 0 (place: record)
+      2  number of cells is not width * height           13  unknown type (place: record)
       3  a cell byte is not 0 or 1 (place: its index)    14  board side outside 1 to 63 (place: record)
       4  first vertex off the board, or dx beyond 63     15  keepout empty or beyond the board (place: record)
       5  second vertex off the board, or dy beyond 63    16  net end off the board (place: record)
@@ -13,7 +13,7 @@
       7  path too short (place: vertices needed)         18  keepout after a net (place: record)
       8  no path (a result: both counts are given)       19  board slice shorter than the cells
       9  direction of a leg with equal ends              20  no net with that index
-     10  job longer than 8,192 bytes
+     10  job longer than 8,192 bytes                     23  an unused byte of a record not 0 (place: record; second: byte)
 
    Cells come row by row, a byte each: 0 free, 1 blocked. Vertices are cell corners, (0, 0) to (width, height); y grows downward.
    Slices are passed as a pointer and a number of elements, which must be there; a pointer may be NULL where that number is 0.
@@ -33,14 +33,14 @@ typedef uint16_t wexxolin_vertex;
 
 /* Does the leg from (ax, ay) to (bx, by) have sight? sight is 1 or 0. Refusals 1 to 5. */
 struct wexxolin_sight {
-    uint64_t number, place, sight;
+    uint64_t number, place, second, sight;
 };
 struct wexxolin_sight wexxolin_sight(const uint8_t *cells, size_t cells_len, size_t width, size_t height,
                                      size_t ax, size_t ay, size_t bx, size_t by);
 
 /* The length of a leg in units (2^20 to a cell) and in cells: by its differences, or between two vertices. Refusals 4 and 5. */
 struct wexxolin_length {
-    uint64_t number, place, units;
+    uint64_t number, place, second, units;
     double cells;
 };
 struct wexxolin_length wexxolin_length(int32_t dx, int32_t dy);
@@ -49,7 +49,7 @@ struct wexxolin_length wexxolin_length_between(size_t ax, size_t ay, size_t bx, 
 /* The direction of a leg, dx * 2^20 / units and dy * 2^20 / units: by its differences, or between two vertices.
    Refusals 4, 5 and 9. */
 struct wexxolin_direction {
-    uint64_t number, place;
+    uint64_t number, place, second;
     double x, y;
 };
 struct wexxolin_direction wexxolin_direction(int32_t dx, int32_t dy);
@@ -59,7 +59,7 @@ struct wexxolin_direction wexxolin_direction_between(size_t ax, size_t ay, size_
    g, parents and marks need (width + 1) * (height + 1) entries; 64 * 64 always suffice, for path too. After 0, 7 and 8 they hold
    each vertex's length from the start, its parent and its mark: 0 unseen, 1 open, 2 expanded. It needs at most 51 KiB of stack (measured). */
 struct wexxolin_route {
-    uint64_t number, place;
+    uint64_t number, place, second;
     double cells;
     uint64_t units, vertices, expansions, tests;
 };
@@ -68,15 +68,15 @@ struct wexxolin_route wexxolin_route(const uint8_t *cells, size_t cells_len, siz
                                      uint64_t *g, size_t g_len, wexxolin_vertex *parents, size_t parents_len,
                                      uint8_t *marks, size_t marks_len, wexxolin_vertex *path, size_t path_len);
 
-/* A job's board, its cells written to board, which needs width * height bytes; 63 * 63 always suffice. Refusals 10 to 19. */
+/* A job's board, its cells written to board, which needs width * height bytes; 63 * 63 always suffice. Refusals 10 to 19 and 23. */
 struct wexxolin_board {
-    uint64_t number, place, width, height, nets;
+    uint64_t number, place, second, width, height, nets;
 };
 struct wexxolin_board wexxolin_board(const uint8_t *job, size_t job_len, uint8_t *board, size_t board_len);
 
-/* A job's net by its index from 0. Refusals 10 to 18 and 20. */
+/* A job's net by its index from 0. Refusals 10 to 18, 20 and 23. */
 struct wexxolin_net {
-    uint64_t number, place, net, sx, sy, gx, gy;
+    uint64_t number, place, second, net, sx, sy, gx, gy;
 };
 struct wexxolin_net wexxolin_net(const uint8_t *job, size_t job_len, size_t index);
 

@@ -255,6 +255,7 @@ static void check_sight(const struct leg_case *c, struct wexxolin_sight b, enum 
         return;
     tell_number("number", a.number, b.number);
     tell_number("place", a.place, b.place);
+    tell_number("second", a.second, b.second);
     tell_number("sight", a.sight, b.sight);
     tell_leg(c);
     end_of_telling();
@@ -291,6 +292,7 @@ static void check_length(struct wexxolin_length a, struct wexxolin_length b, con
     tell("%s (%lld, %lld, %llu, %llu)", call, p, q, r, s);
     tell_number("number", a.number, b.number);
     tell_number("place", a.place, b.place);
+    tell_number("second", a.second, b.second);
     tell_number("units", a.units, b.units);
     tell_double("cells", a.cells, b.cells);
     end_of_telling();
@@ -305,6 +307,7 @@ static void check_direction(struct wexxolin_direction a, struct wexxolin_directi
     tell("%s (%lld, %lld, %llu, %llu)", call, p, q, r, s);
     tell_number("number", a.number, b.number);
     tell_number("place", a.place, b.place);
+    tell_number("second", a.second, b.second);
     tell_double("x", a.x, b.x);
     tell_double("y", a.y, b.y);
     end_of_telling();
@@ -376,6 +379,7 @@ static void tell_route(struct wexxolin_route a, struct wexxolin_route b, const c
     tell("a route differs: %s", why);
     tell_number("number", a.number, b.number);
     tell_number("place", a.place, b.place);
+    tell_number("second", a.second, b.second);
     tell_double("cells", a.cells, b.cells);
     tell_number("units", a.units, b.units);
     tell_number("vertices", a.vertices, b.vertices);
@@ -685,6 +689,7 @@ static void check_board(const struct job_case *c, struct wexxolin_board b, const
         return;
     tell_number("number", a.number, b.number);
     tell_number("place", a.place, b.place);
+    tell_number("second", a.second, b.second);
     tell_number("width", a.width, b.width);
     tell_number("height", a.height, b.height);
     tell_number("nets", a.nets, b.nets);
@@ -713,6 +718,7 @@ static void check_net(const struct job_case *c, struct wexxolin_net b, enum flus
         return;
     tell_number("number", a.number, b.number);
     tell_number("place", a.place, b.place);
+    tell_number("second", a.second, b.second);
     tell_number("net", a.net, b.net);
     tell_number("sx", a.sx, b.sx);
     tell_number("sy", a.sy, b.sy);
@@ -759,7 +765,8 @@ static void library_lines(const struct job *job, struct second_text *text)
     static uint8_t cells[MOST_CELLS];
     struct wexxolin_board b = wexxolin_board(job->bytes, job->length, cells, MOST_CELLS);
     if (b.number)
-        second_print(text, "refused %u at %u\n", (unsigned)b.number, (unsigned)b.place);
+        second_print(text, b.number == 23 ? "refused %u at %u %u\n" : "refused %u at %u\n", (unsigned)b.number, (unsigned)b.place,
+                     (unsigned)b.second);
     for (size_t index = 0; b.number == 0 && index < b.nets; index++) {
         struct wexxolin_net n = wexxolin_net(job->bytes, job->length, index);
         struct wexxolin_route r = wexxolin_route(
@@ -1371,125 +1378,136 @@ static void group_refusals(void)
 
 struct job_row {
     const char *hex;
-    uint64_t number, place;
+    uint64_t number, place, second;
 };
 
 /* Written by hand from the document's table; a 4 by 3 board unless the row is about the board. */
 #define B43 "0100040300000000"
 static const struct job_row job_rows[] = {
-    {"", 12, 0},
-    {"01", 11, 0},
-    {"01000403000000", 11, 0},
-    {B43 "00", 11, 0},
-    {"ff00000000000000 ff", 11, 0},
-    {B43, 0, 0},
+    {"", 12, 0, 0},
+    {"01", 11, 0, 0},
+    {"01000403000000", 11, 0, 0},
+    {B43 "00", 11, 0, 0},
+    {"ff00000000000000 ff", 11, 0, 0},
+    {B43, 0, 0, 0},
     /* 14: board side outside 1..63 */
-    {"0100000000000000", 14, 0},
-    {"0100000100000000", 14, 0},
-    {"0100010000000000", 14, 0},
-    {"0100010100000000", 0, 0},
-    {"01003f3f00000000", 0, 0},
-    {"0100403f00000000", 14, 0},
-    {"01003f4000000000", 14, 0},
-    {"0100ff0100000000", 14, 0},
-    {"010001ff00000000", 14, 0},
-    /* 13: an unused byte of the board not 0, also before 14 */
-    {"0101040300000000", 13, 0},
-    {"0100040301000000", 13, 0},
-    {"0100040300800000", 13, 0},
-    {"0100040300000100", 13, 0},
-    {"01000403000000ff", 13, 0},
-    {"0101000000000000", 13, 0},
-    /* 13: unknown type, also as record 0, where 12 would hold too */
-    {"0000040300000000", 13, 0},
-    {"0400040300000000", 13, 0},
-    {"ff00040300000000", 13, 0},
-    {B43 "0000000000000000", 13, 1},
-    {B43 "0400000000000000", 13, 1},
-    {B43 "8100040300000000", 13, 1},
-    {B43 "ff00000000000000", 13, 1},
-    /* 12: record 0 is not a board, or a later one is; 13 comes before, 14 after */
-    {"0200000001010000", 12, 0},
-    {"0301000000000000", 12, 0},
-    {"0201000001010000", 13, 0},
-    {"0301000000000001", 13, 0},
-    {"0300ffffffff0000", 12, 0},
-    {"0200000000000000", 12, 0},
-    {B43 B43, 12, 1},
-    {B43 "0100000000000000", 12, 1},
-    {B43 "0101040300000000", 13, 1},
-    {B43 "0100ffff00000000", 12, 1},
-    {B43 "0301000000000000" B43, 12, 2},
-    {B43 "0200000001010000 0301000000000000" B43, 12, 3},
+    {"0100000000000000", 14, 0, 0},
+    {"0100000100000000", 14, 0, 0},
+    {"0100010000000000", 14, 0, 0},
+    {"0100010100000000", 0, 0, 0},
+    {"01003f3f00000000", 0, 0, 0},
+    {"0100403f00000000", 14, 0, 0},
+    {"01003f4000000000", 14, 0, 0},
+    {"0100ff0100000000", 14, 0, 0},
+    {"010001ff00000000", 14, 0, 0},
+    /* 23: an unused byte of the board not 0, the lowest of several, also before 14 */
+    {"0101040300000000", 23, 0, 1},
+    {"0100040301000000", 23, 0, 4},
+    {"0100040300800000", 23, 0, 5},
+    {"0100040300000100", 23, 0, 6},
+    {"01000403000000ff", 23, 0, 7},
+    {"0101000000000000", 23, 0, 1},
+    {"0100040301010101", 23, 0, 4},
+    {"0101040300000001", 23, 0, 1},
+    {"01000000000000ff", 23, 0, 7},
+    /* 13: unknown type, whatever its other bytes, also as record 0, where 12 would hold too */
+    {"0000040300000000", 13, 0, 0},
+    {"0400040300000000", 13, 0, 0},
+    {"ff00040300000000", 13, 0, 0},
+    {B43 "0000000000000000", 13, 1, 0},
+    {B43 "0400000000000000", 13, 1, 0},
+    {B43 "8100040300000000", 13, 1, 0},
+    {B43 "ff00000000000000", 13, 1, 0},
+    {"0001040300000001", 13, 0, 0},
+    {B43 "04ffffffffffffff", 13, 1, 0},
+    /* 12: record 0 is not a board, or a later one is; 13 and 23 come before, 14 after */
+    {"0200000001010000", 12, 0, 0},
+    {"0301000000000000", 12, 0, 0},
+    {"0201000001010000", 23, 0, 1},
+    {"0301000000000001", 23, 0, 7},
+    {"0300ffffffff0000", 12, 0, 0},
+    {"0200000000000000", 12, 0, 0},
+    {B43 B43, 12, 1, 0},
+    {B43 "0100000000000000", 12, 1, 0},
+    {B43 "0101040300000000", 23, 1, 1},
+    {B43 "0100ffff00000000", 12, 1, 0},
+    {B43 "0301000000000000" B43, 12, 2, 0},
+    {B43 "0200000001010000 0301000000000000" B43, 12, 3, 0},
     /* 15: keepout empty or beyond the board; edges are touched */
-    {B43 "0200000001010000", 0, 0},
-    {B43 "0200000004030000", 0, 0},
-    {B43 "0200030204030000", 0, 0},
-    {B43 "0200000005030000", 15, 1},
-    {B43 "0200000004040000", 15, 1},
-    {B43 "0200000000010000", 15, 1},
-    {B43 "0200000001000000", 15, 1},
-    {B43 "0200000000000000", 15, 1},
-    {B43 "0200020102030000", 15, 1},
-    {B43 "0200020103010000", 15, 1},
-    {B43 "0200030002010000", 15, 1},
-    {B43 "0200000201010000", 15, 1},
-    {B43 "0200040304030000", 15, 1},
-    {B43 "0200040005010000", 15, 1},
-    {B43 "02000000ff010000", 15, 1},
-    {B43 "0200000001ff0000", 15, 1},
-    {B43 "0200ffff00000000", 15, 1},
-    {B43 "0200000001010000 0200000001010000 0200000004030000", 0, 0},
-    {B43 "0200000001010000 0200000005010000", 15, 2},
-    /* 13: unused bytes of a keepout, also before 15 and 18 */
-    {B43 "0201000001010000", 13, 1},
-    {B43 "0200000001010100", 13, 1},
-    {B43 "0200000001010001", 13, 1},
-    {B43 "02ff000000000000", 13, 1},
-    {B43 "0301000000000000 0201000001010000", 13, 2},
+    {B43 "0200000001010000", 0, 0, 0},
+    {B43 "0200000004030000", 0, 0, 0},
+    {B43 "0200030204030000", 0, 0, 0},
+    {B43 "0200000005030000", 15, 1, 0},
+    {B43 "0200000004040000", 15, 1, 0},
+    {B43 "0200000000010000", 15, 1, 0},
+    {B43 "0200000001000000", 15, 1, 0},
+    {B43 "0200000000000000", 15, 1, 0},
+    {B43 "0200020102030000", 15, 1, 0},
+    {B43 "0200020103010000", 15, 1, 0},
+    {B43 "0200030002010000", 15, 1, 0},
+    {B43 "0200000201010000", 15, 1, 0},
+    {B43 "0200040304030000", 15, 1, 0},
+    {B43 "0200040005010000", 15, 1, 0},
+    {B43 "02000000ff010000", 15, 1, 0},
+    {B43 "0200000001ff0000", 15, 1, 0},
+    {B43 "0200ffff00000000", 15, 1, 0},
+    {B43 "0200000001010000 0200000001010000 0200000004030000", 0, 0, 0},
+    {B43 "0200000001010000 0200000005010000", 15, 2, 0},
+    /* 23: unused bytes of a keepout, also before 15 and 18 */
+    {B43 "0201000001010000", 23, 1, 1},
+    {B43 "0200000001010100", 23, 1, 6},
+    {B43 "0200000001010001", 23, 1, 7},
+    {B43 "02ff000000000000", 23, 1, 1},
+    {B43 "0301000000000000 0201000001010000", 23, 2, 1},
+    {B43 "0201000001010101", 23, 1, 1},
+    {B43 "0200000001010101", 23, 1, 6},
     /* 18: keepout after a net, before 15 */
-    {B43 "0301000000000000 0200000001010000", 18, 2},
-    {B43 "0301000000000000 0200000000000000", 18, 2},
-    {B43 "0200000001010000 0301000000000000 0302000000000000 0200000001010000", 18, 4},
+    {B43 "0301000000000000 0200000001010000", 18, 2, 0},
+    {B43 "0301000000000000 0200000000000000", 18, 2, 0},
+    {B43 "0200000001010000 0301000000000000 0302000000000000 0200000001010000", 18, 4, 0},
     /* 16: net end off the board */
-    {B43 "0301000004030000", 0, 0},
-    {B43 "0301040300000000", 0, 0},
-    {B43 "0301050000000000", 16, 1},
-    {B43 "0301000400000000", 16, 1},
-    {B43 "0301000005000000", 16, 1},
-    {B43 "0301000000040000", 16, 1},
-    {B43 "0301ffffffff0000", 16, 1},
-    {B43 "0301000000000000 0302000000ff0000", 16, 2},
+    {B43 "0301000004030000", 0, 0, 0},
+    {B43 "0301040300000000", 0, 0, 0},
+    {B43 "0301050000000000", 16, 1, 0},
+    {B43 "0301000400000000", 16, 1, 0},
+    {B43 "0301000005000000", 16, 1, 0},
+    {B43 "0301000000040000", 16, 1, 0},
+    {B43 "0301ffffffff0000", 16, 1, 0},
+    {B43 "0301000000000000 0302000000ff0000", 16, 2, 0},
     /* 17: net number not above the one before, before 16 */
-    {B43 "0300000000000000", 17, 1},
-    {B43 "0300ffff00000000", 17, 1},
-    {B43 "0301000000000000 0301000000000000", 17, 2},
-    {B43 "0302000000000000 0301000000000000", 17, 2},
-    {B43 "0302000000000000 0300000000000000", 17, 2},
-    {B43 "0302000000000000 0303000000000000", 0, 0},
-    {B43 "03ff000000000000", 0, 0},
-    {B43 "03ff000000000000 03ff000000000000", 17, 2},
-    {B43 "03ff000000000000 0300000000000000", 17, 2},
-    {B43 "03fe000000000000 03ff000000000000", 0, 0},
-    {B43 "0301000000000000 0301050000000000", 17, 2},
-    /* 13: unused bytes of a net, also before 17 and 16 */
-    {B43 "0301000000000100", 13, 1},
-    {B43 "0301000000000001", 13, 1},
-    {B43 "0300ff0000000001", 13, 1},
+    {B43 "0300000000000000", 17, 1, 0},
+    {B43 "0300ffff00000000", 17, 1, 0},
+    {B43 "0301000000000000 0301000000000000", 17, 2, 0},
+    {B43 "0302000000000000 0301000000000000", 17, 2, 0},
+    {B43 "0302000000000000 0300000000000000", 17, 2, 0},
+    {B43 "0302000000000000 0303000000000000", 0, 0, 0},
+    {B43 "03ff000000000000", 0, 0, 0},
+    {B43 "03ff000000000000 03ff000000000000", 17, 2, 0},
+    {B43 "03ff000000000000 0300000000000000", 17, 2, 0},
+    {B43 "03fe000000000000 03ff000000000000", 0, 0, 0},
+    {B43 "0301000000000000 0301050000000000", 17, 2, 0},
+    /* 23: unused bytes of a net, also before 17 and 16 */
+    {B43 "0301000000000100", 23, 1, 6},
+    {B43 "0301000000000001", 23, 1, 7},
+    {B43 "0300ff0000000001", 23, 1, 7},
+    {B43 "0301000000000101", 23, 1, 6},
     /* records in order: the first record that is refused counts, whatever its number */
-    {B43 "0301050000000000 0400000000000000", 16, 1},
-    {"0100404000000000 0400000000000000", 14, 0},
-    {B43 "0200000000000000" B43, 15, 1},
+    {B43 "0301050000000000 0400000000000000", 16, 1, 0},
+    {"0100404000000000 0400000000000000", 14, 0, 0},
+    {B43 "0200000000000000" B43, 15, 1, 0},
+    {B43 "0301000000000001 0302000000000100", 23, 1, 7},
+    {B43 "0301000000000001 0400000000000000", 23, 1, 7},
 };
 
-static void expect_job(const struct job *job, uint64_t number, uint64_t place)
+static void expect_job(const struct job *job, uint64_t number, uint64_t place, uint64_t second)
 {
     struct wexxolin_board b = compare_job(job);
-    count(2);
-    if (b.number == number && b.place == place)
+    count(3);
+    if (b.number == number && b.place == place && b.second == second)
         return;
-    tell("the document gives %llu at %llu, the second router %llu at %llu", (unsigned long long)number, (unsigned long long)place,
-         (unsigned long long)b.number, (unsigned long long)b.place);
+    tell("the document gives %llu at %llu %llu, the second router %llu at %llu %llu", (unsigned long long)number,
+         (unsigned long long)place, (unsigned long long)second, (unsigned long long)b.number, (unsigned long long)b.place,
+         (unsigned long long)b.second);
     tell_job(job->bytes, job->length);
     end_of_telling();
 }
@@ -1501,29 +1519,29 @@ static void group_job_table(void)
     for (size_t i = 0; i < sizeof job_rows / sizeof *job_rows; i++) {
         job.length = 0;
         job_hex(&job, job_rows[i].hex);
-        expect_job(&job, job_rows[i].number, job_rows[i].place);
+        expect_job(&job, job_rows[i].number, job_rows[i].place, job_rows[i].second);
     }
     job_full(&dice, &job, 63, 63);
-    expect_job(&job, 0, 0);
+    expect_job(&job, 0, 0, 0);
     static const size_t lengths[] = {8193, 8195, 8199, 8200, 8208, 16384, 65536, 65544, 69999};
     for (size_t i = 0; i < sizeof lengths / sizeof *lengths; i++) {
         job.length = lengths[i];
-        expect_job(&job, 10, 0);
+        expect_job(&job, 10, 0, 0);
     }
     for (job.length = 8185; job.length < 8192; job.length++)
-        expect_job(&job, 11, 0);
+        expect_job(&job, 11, 0, 0);
     job.length = 8192;
     job.bytes[8191] = 1;
-    expect_job(&job, 13, 1023);
+    expect_job(&job, 23, 1023, 7);
     job.bytes[8191] = 0;
     job.bytes[8192 - 8 + 1] = 254;
-    expect_job(&job, 17, 1023);
+    expect_job(&job, 17, 1023, 0);
     job.bytes[8192 - 8 + 1] = 255;
     job.bytes[8192 - 8 + 4] = 64;
-    expect_job(&job, 16, 1023);
+    expect_job(&job, 16, 1023, 0);
     memset(job.bytes, 0, sizeof job.bytes);
     job.length = 8192;
-    expect_job(&job, 13, 0);
+    expect_job(&job, 13, 0, 0);
     end_group();
 }
 

@@ -14,7 +14,8 @@ int main(void)
     size_t length = fread(job, 1, sizeof job, stdin);
     struct wexxolin_board b = wexxolin_board(job, length, cells, MOST_CELLS);
     if (b.number) {
-        fprintf(stderr, "refused %u at %u\n", (unsigned)b.number, (unsigned)b.place);
+        fprintf(stderr, b.number == 23 ? "refused %u at %u %u\n" : "refused %u at %u\n", (unsigned)b.number, (unsigned)b.place,
+                (unsigned)b.second);
         return 1;
     }
     for (size_t index = 0; index < b.nets; index++) {

@@ -14,8 +14,8 @@ def job(name, comment, rows, printed=None):
     jobs.append((name, comment, rows.split() if isinstance(rows, str) else rows, printed))
 
 
-def refused(name, comment, rows, number, place):
-    job("refused-%d-%s" % (number, name), comment, rows, "refused %d at %d\n" % (number, place))
+def refused(name, comment, rows, number, *places):
+    job("refused-%d-%s" % (number, name), comment, rows, "refused %d at %s\n" % (number, " ".join(map(str, places))))
 
 
 def board(w, h):
@@ -88,22 +88,34 @@ refused("type-0", "type 0", "0000040300000000", 13, 0)
 refused("type-4", "type 4", [B43, "0400000000000000"], 13, 1)
 refused("type-255", "type 255 as record 2", [B43, keepout(0, 0, 1, 1), "ff00000000000000"], 13, 2)
 refused("zeros", "8,192 zero bytes", ["00" * 8] * 1024, 13, 0)
+refused("type-4-all-bytes", "an unknown type is 13, whatever its other bytes", [B43, "04ffffffffffffff"], 13, 1)
+refused("type-0-byte-7", "type 0 with a byte that is not 0: 13 comes before 23", "0000040300000001", 13, 0)
+
+# 23
 for at in (1, 4, 5, 6, 7):
     row = bytearray.fromhex(B43)
     row[at] = 1
-    refused("board-byte-%d" % at, "unused byte %d of the board is 1" % at, [row.hex()], 13, 0)
+    refused("board-byte-%d" % at, "unused byte %d of the board is 1" % at, [row.hex()], 23, 0, at)
 for at in (1, 6, 7):
     row = bytearray.fromhex(keepout(0, 0, 1, 1))
     row[at] = 128
-    refused("keepout-byte-%d" % at, "unused byte %d of a keepout is 128" % at, [B43, row.hex()], 13, 1)
+    refused("keepout-byte-%d" % at, "unused byte %d of a keepout is 128" % at, [B43, row.hex()], 23, 1, at)
 for at in (6, 7):
     row = bytearray.fromhex(net(1, 0, 0, 1, 1))
     row[at] = 255
-    refused("net-byte-%d" % at, "unused byte %d of a net is 255" % at, [B43, row.hex()], 13, 1)
-refused("keepout-first-byte-1", "13 comes before 12", "0201000001010000", 13, 0)
-refused("second-board-byte-7", "13 comes before 12 for a later board too", [B43, "0100040300000001"], 13, 1)
-refused("keepout-after-net-byte-6", "13 comes before 18", [B43, net(1, 0, 0, 1, 1), "0200000001010100"], 13, 2)
-refused("net-zero-byte-6", "13 comes before 17 and 16", [B43, "0300ff0000000100"], 13, 1)
+    refused("net-byte-%d" % at, "unused byte %d of a net is 255" % at, [B43, row.hex()], 23, 1, at)
+refused("keepout-first-byte-1", "23 comes before 12", "0201000001010000", 23, 0, 1)
+refused("second-board-byte-7", "23 comes before 12 for a later board too", [B43, "0100040300000001"], 23, 1, 7)
+refused("board-side-0-byte-4", "23 comes before 14", "0100000001000000", 23, 0, 4)
+refused("keepout-empty-byte-1", "23 comes before 15", [B43, "0201000000000000"], 23, 1, 1)
+refused("keepout-after-net-byte-6", "23 comes before 18", [B43, net(1, 0, 0, 1, 1), "0200000001010100"], 23, 2, 6)
+refused("net-zero-byte-6", "23 comes before 17 and 16", [B43, "0300ff0000000100"], 23, 1, 6)
+refused("board-all-bytes", "every unused byte of the board is 255: the lowest is named", "01ff0403ffffffff", 23, 0, 1)
+refused("keepout-bytes-6-7", "unused bytes 6 and 7 of a keepout: the lower is named", [B43, "0200000001010101"], 23, 1, 6)
+refused("net-bytes-6-7", "unused bytes 6 and 7 of a net: the lower is named", [B43, "0301000001010101"], 23, 1, 6)
+refused("two-records", "unused bytes in two records: the first record counts, not the lower byte", [B43, "0301000001010001", "0302000001010100"], 23, 1, 7)
+refused("before-13", "the first refused record counts: 23 at 1, not 13 at 2", [B43, "0200000001010001", "ff00000000000000"], 23, 1, 7)
+refused("last-record", "byte 7 of record 1023", long_rows[:1023] + [long_rows[1023][:14] + "01"], 23, 1023, 7)
 
 # 14
 refused("side-0-0", "both sides 0", "0100000000000000", 14, 0)

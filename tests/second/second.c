@@ -23,14 +23,14 @@ enum { TYPE_BOARD = 1, TYPE_KEEPOUT = 2, TYPE_NET = 3 };
 
 /* "A refusal carries its number and place and no other value." Number 0 is no refusal. */
 struct refusal {
-    uint64_t number, place;
+    uint64_t number, place, second;
 };
 
-static const struct refusal accepted = {0, 0};
+static const struct refusal accepted = {0, 0, 0};
 
 static struct refusal refuse(uint64_t number, uint64_t place)
 {
-    struct refusal refusal = {number, place};
+    struct refusal refusal = {number, place, 0};
     return refusal;
 }
 
@@ -184,7 +184,7 @@ static struct refusal check_ends_without_board(size_t ax, size_t ay, size_t bx, 
 
 static struct wexxolin_length length_answer(struct refusal refusal, int dx, int dy)
 {
-    struct wexxolin_length answer = {.number = refusal.number, .place = refusal.place};
+    struct wexxolin_length answer = {.number = refusal.number, .place = refusal.place, .second = refusal.second};
     if (refusal.number == 0) {
         answer.units = units_of(dx, dy);
         answer.cells = cells_of(answer.units);
@@ -197,7 +197,7 @@ static struct wexxolin_direction direction_answer(struct refusal refusal, int dx
 {
     if (refusal.number == 0 && dx == 0 && dy == 0)
         refusal = refuse(9, 0);
-    struct wexxolin_direction answer = {.number = refusal.number, .place = refusal.place};
+    struct wexxolin_direction answer = {.number = refusal.number, .place = refusal.place, .second = refusal.second};
     if (refusal.number == 0) {
         answer.x = quotient(dx, units_of(dx, dy));
         answer.y = quotient(dy, units_of(dx, dy));
@@ -262,7 +262,7 @@ struct wexxolin_sight second_sight(const uint8_t *cells, size_t cells_len, size_
                                    size_t ax, size_t ay, size_t bx, size_t by)
 {
     struct refusal refusal = check_board_and_ends(cells, cells_len, width, height, ax, ay, bx, by);
-    struct wexxolin_sight answer = {.number = refusal.number, .place = refusal.place};
+    struct wexxolin_sight answer = {.number = refusal.number, .place = refusal.place, .second = refusal.second};
     if (refusal.number == 0) {
         struct board board = {cells, (int)width, (int)height};
         struct point a = {(int)ax, (int)ay}, b = {(int)bx, (int)by};
@@ -441,7 +441,7 @@ struct wexxolin_route second_route(const uint8_t *cells, size_t cells_len, size_
             refusal = refuse(6, 0);
     }
     if (refusal.number) {
-        struct wexxolin_route answer = {.number = refusal.number, .place = refusal.place};
+        struct wexxolin_route answer = {.number = refusal.number, .place = refusal.place, .second = refusal.second};
         return answer;
     }
     struct search s = {.board = {cells, (int)width, (int)height}, .start = {(int)sx, (int)sy}, .goal = {(int)gx, (int)gy},
@@ -458,15 +458,29 @@ struct job {
     unsigned last_net;
 };
 
-/* "unknown type, or an unused byte not 0" */
+/* "13 keeps the unknown type" */
 static int is_13(const uint8_t *r)
 {
-    switch (r[0]) {
-    case TYPE_BOARD: return r[1] != 0 || r[4] != 0 || r[5] != 0 || r[6] != 0 || r[7] != 0;
-    case TYPE_KEEPOUT: return r[1] != 0 || r[6] != 0 || r[7] != 0;
-    case TYPE_NET: return r[6] != 0 || r[7] != 0;
-    default: return 1;
+    return r[0] != TYPE_BOARD && r[0] != TYPE_KEEPOUT && r[0] != TYPE_NET;
+}
+
+/* "board: byte 2 width, byte 3 height; others 0"; "keepout: ... 1, 6, 7 are 0"; "net: ... 6, 7 are 0"; byte 0 is the type */
+static int is_unused(uint8_t type, unsigned byte)
+{
+    switch (type) {
+    case TYPE_BOARD: return byte == 1 || byte >= 4;
+    case TYPE_KEEPOUT: return byte == 1 || byte >= 6;
+    default: return byte >= 6;
     }
+}
+
+/* "23, an unused byte"; "a refusal names the first place that earns it": that byte's number, or 0 if all unused bytes are 0 */
+static unsigned byte_of_23(const uint8_t *r)
+{
+    for (unsigned byte = 1; byte < RECORD; byte++)
+        if (is_unused(r[0], byte) && r[byte] != 0)
+            return byte;
+    return 0;
 }
 
 /* "record 0 is not a board (or there is none), or a later one is" */
@@ -507,24 +521,29 @@ static int is_16(const uint8_t *r, const struct job *job)
     return r[2] > job->width || r[3] > job->height || r[4] > job->width || r[5] > job->height;
 }
 
-/* "each checked 13, 12, 18, then 14, 15, or 17 before 16" */
-static uint64_t record_refusal(const uint8_t *r, size_t record, const struct job *job)
+/* "each checked 13, 12, 18, then 14, 15, or 17 before 16"; "23, an unused byte, comes directly after 13 with record and byte
+   number" */
+static struct refusal record_refusal(const uint8_t *r, size_t record, const struct job *job)
 {
     if (is_13(r))
-        return 13;
+        return refuse(13, record);
+    if (byte_of_23(r)) {
+        struct refusal refusal = {23, record, byte_of_23(r)};
+        return refusal;
+    }
     if (is_12(r, record))
-        return 12;
+        return refuse(12, record);
     if (is_18(r, job))
-        return 18;
+        return refuse(18, record);
     if (r[0] == TYPE_BOARD && is_14(r))
-        return 14;
+        return refuse(14, record);
     if (r[0] == TYPE_KEEPOUT && is_15(r, job))
-        return 15;
+        return refuse(15, record);
     if (r[0] == TYPE_NET && is_17(r, job))
-        return 17;
+        return refuse(17, record);
     if (r[0] == TYPE_NET && is_16(r, job))
-        return 16;
-    return 0;
+        return refuse(16, record);
+    return accepted;
 }
 
 static void take_record(const uint8_t *r, struct job *job)
@@ -551,9 +570,9 @@ static struct refusal check_job(const uint8_t *bytes, size_t length, struct job 
         return refuse(12, 0);
     for (size_t record = 0; record < length / RECORD; record++) {
         const uint8_t *r = bytes + record * RECORD;
-        uint64_t number = record_refusal(r, record, job);
-        if (number)
-            return refuse(number, record);
+        struct refusal refusal = record_refusal(r, record, job);
+        if (refusal.number)
+            return refusal;
         take_record(r, job);
     }
     return accepted;
@@ -579,7 +598,7 @@ struct wexxolin_board second_board(const uint8_t *bytes, size_t length, uint8_t 
     struct refusal refusal = check_job(bytes, length, &job);
     if (refusal.number == 0 && board_len < (size_t)job.width * job.height)
         refusal = refuse(19, 0);
-    struct wexxolin_board answer = {.number = refusal.number, .place = refusal.place};
+    struct wexxolin_board answer = {.number = refusal.number, .place = refusal.place, .second = refusal.second};
     if (refusal.number == 0) {
         write_cells(bytes, length, &job, board);
         answer.width = job.width;
@@ -610,7 +629,7 @@ struct wexxolin_net second_net(const uint8_t *bytes, size_t length, size_t index
     struct refusal refusal = check_job(bytes, length, &job);
     if (refusal.number == 0 && index >= job.nets)
         refusal = refuse(20, 0);
-    struct wexxolin_net answer = {.number = refusal.number, .place = refusal.place};
+    struct wexxolin_net answer = {.number = refusal.number, .place = refusal.place, .second = refusal.second};
     if (refusal.number == 0) {
         const uint8_t *r = net_record(bytes, index);
         answer.net = r[1];
@@ -662,13 +681,17 @@ static void net_line(const uint8_t *cells, const struct wexxolin_board *b, const
     second_print(text, "\n");
 }
 
-/* "reads a job ... and prints one line per net in order"; "A refused job prints only `refused`, number, `at`, place." */
+/* "reads a job ... and prints one line per net in order"; "A refused job prints only `refused`, number, `at`, place."; "23 ...
+   with record and byte number, both printed" */
 void second_lines(const uint8_t *job, size_t job_len, struct second_text *text)
 {
     static uint8_t cells[MOST_CELLS];
     struct wexxolin_board b = second_board(job, job_len, cells, MOST_CELLS);
     if (b.number) {
-        second_print(text, "refused %u at %u\n", (unsigned)b.number, (unsigned)b.place);
+        second_print(text, "refused %u at %u", (unsigned)b.number, (unsigned)b.place);
+        if (b.number == 23)
+            second_print(text, " %u", (unsigned)b.second);
+        second_print(text, "\n");
         return;
     }
     for (size_t index = 0; index < b.nets; index++) {

@@ -3,13 +3,13 @@ use mathlib.Core.Path.{_≡_, refl, sym, ap, ap₂, _∙_}
 use Prim.Native.Nat.{ℕ}
 use Rattle.board.specs.declared.Refusal.{Refusal}
 use Rattle.board.specs.declared.Refusal.the-variants as board
-use Rattle.board.specs.Handed.{Verdict, refused, Handed, judged, refusalRow, numberIn, placeIn}
+use Rattle.board.specs.Handed.{Verdict, refused, Handed, judged, refusalRow, numberIn, placeIn, secondIn}
 use Rattle.board.specs.Board.{Board}
 use Rattle.problem.specs.Problem.{problem}
 use Rattle.router.specs.Answers.{Route, Slices, slicesAfter, Routed}
 use Rattle.faults.specs.declared.JobRefusal.{JobRefusal}
 use Rattle.faults.specs.Refusals as job
-use Rattle.faults.specs.declared.JobRefusal.the-variants.{Long, Uneven, Order, Stray, Side, Keepout, End, Number, Late}
+use Rattle.faults.proofs.Refusing.{listed}
 use Rattle.capi.specs.declared.Found.{Found}
 use Rattle.capi.specs.Told.{toldRoute, RoutedForC}
 
@@ -35,20 +35,10 @@ refusal-is why e f = ap₂ (λ (n p : ℕ). refused n p 0) e f ∙ go why
     go board.First = refl
     go board.Second = refl
 
--- a job's too
-pub job-refusal-is : (why : JobRefusal) {n p : ℕ} → n ≡ numberIn (job.refusalRow why) → p ≡ placeIn (job.refusalRow why) → refused n p 0 ≡ job.refusalRow why
-job-refusal-is why e f = ap₂ (λ (n p : ℕ). refused n p 0) e f ∙ go why
-  where
-    go : (w : JobRefusal) → refused (numberIn (job.refusalRow w)) (placeIn (job.refusalRow w)) 0 ≡ job.refusalRow w
-    go Long = refl
-    go Uneven = refl
-    go (Order i) = refl
-    go (Stray i) = refl
-    go (Side i) = refl
-    go (Keepout i) = refl
-    go (End i) = refl
-    go (Number i) = refl
-    go (Late i) = refl
+-- a job's too, with its second place
+pub job-refusal-is : (why : JobRefusal) {n p s : ℕ} → n ≡ numberIn (job.refusalRow why) → p ≡ placeIn (job.refusalRow why) → s ≡ secondIn (job.refusalRow why)
+    → refused n p s ≡ job.refusalRow why
+job-refusal-is why e f g = rw (e, f, g, listed why .row-is)
 
 -- ---- a route for C is the route call's
 

@@ -1,4 +1,4 @@
--- What C gets: document 01's number and place, and each value in a field of its own, 0 where its row has none.
+-- What C gets: the table's number and its two places, and each value in a field of its own, 0 where its row has none.
 use Prim.Native.Nat.{ℕ}
 use mathlib.Core.Path.{_≡_}
 use mathlib.Core.List.{List}
@@ -20,13 +20,13 @@ use Rattle.capi.specs.declared.Sides.{Sides}
 use Rattle.capi.specs.declared.Net.{Net}
 
 abbrev pub toldSight : Handed sight-call.Seen → Seen
-toldSight h = record { number = h .number; place = h .place; sight = h .values .sight }
+toldSight h = record { number = h .number; place = h .place; second = h .second; sight = h .values .sight }
 
 abbrev pub toldLength : Handed length-calls.Long → Long
-toldLength h = record { number = h .number; place = h .place; units = h .values .units; cells = inCells (h .values .units) }
+toldLength h = record { number = h .number; place = h .place; second = h .second; units = h .values .units; cells = inCells (h .values .units) }
 
 abbrev pub toldDirection : Handed length-calls.Toward → Toward
-toldDirection h = record { number = h .number; place = h .place; x = h .values .x; y = h .values .y }
+toldDirection h = record { number = h .number; place = h .place; second = h .second; x = h .values .x; y = h .values .y }
 
 abbrev pub toldRoute : Handed Route → Found
 toldRoute h =
@@ -34,6 +34,7 @@ toldRoute h =
     record {
       number = h .number;
       place = h .place;
+      second = h .second;
       cells = v .cells;
       units = v .units;
       vertices = v .vertices;
@@ -43,12 +44,12 @@ toldRoute h =
 
 abbrev pub toldBoard : Handed job-calls.Sides → Sides
 toldBoard h =
-    let v = h .values in record { number = h .number; place = h .place; width = v .width; height = v .height; nets = v .nets }
+    let v = h .values in record { number = h .number; place = h .place; second = h .second; width = v .width; height = v .height; nets = v .nets }
 
 abbrev pub toldNet : Handed job-records.Net → Net
 toldNet h =
     let v = h .values in
-    record { number = h .number; place = h .place; net = v .number; sx = v .sx; sy = v .sy; gx = v .gx; gy = v .gy }
+    record { number = h .number; place = h .place; second = h .second; net = v .number; sx = v .sx; sy = v .sy; gx = v .gx; gy = v .gy }
 
 -- a route for C: what it gets, and what the slices hold before and after
 pub record RoutedForC (b : Board) (sx sy gx gy : ℕ) (before after : Slices) (r : Found) : Type 0 where

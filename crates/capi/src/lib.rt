@@ -27,6 +27,7 @@ use sight::sight;
 pub struct Seen {
     pub number: u64,
     pub place: u64,
+    pub second: u64,
     pub sight: u64,
 }
 
@@ -35,6 +36,7 @@ pub struct Seen {
 pub struct Long {
     pub number: u64,
     pub place: u64,
+    pub second: u64,
     pub units: u64,
     pub cells: f64,
 }
@@ -44,6 +46,7 @@ pub struct Long {
 pub struct Toward {
     pub number: u64,
     pub place: u64,
+    pub second: u64,
     pub x: f64,
     pub y: f64,
 }
@@ -53,6 +56,7 @@ pub struct Toward {
 pub struct Found {
     pub number: u64,
     pub place: u64,
+    pub second: u64,
     pub cells: f64,
     pub units: u64,
     pub vertices: u64,
@@ -65,6 +69,7 @@ pub struct Found {
 pub struct Sides {
     pub number: u64,
     pub place: u64,
+    pub second: u64,
     pub width: u64,
     pub height: u64,
     pub nets: u64,
@@ -75,6 +80,7 @@ pub struct Sides {
 pub struct Net {
     pub number: u64,
     pub place: u64,
+    pub second: u64,
     pub net: u64,
     pub sx: u64,
     pub sy: u64,
@@ -90,11 +96,13 @@ fn tell_sight(answer: Answer) -> Seen
         Answer::Yes => Seen {
             number: 0,
             place: 0,
+            second: 0,
             sight: 1,
         },
         Answer::No => Seen {
             number: 0,
             place: 0,
+            second: 0,
             sight: 0,
         },
         Answer::Refused(why) => refuse_sight(why.number(), why.place() as u64),
@@ -107,6 +115,7 @@ fn refuse_sight(number: u64, place: u64) -> Seen
     Seen {
         number,
         place,
+        second: 0,
         sight: 0,
     }
 }
@@ -136,6 +145,7 @@ fn tell_length(measured: Measured) -> Long
         Measured::Of(l) => Long {
             number: 0,
             place: 0,
+            second: 0,
             units: l.units,
             cells: exact_cells(l.units),
         },
@@ -149,6 +159,7 @@ fn refuse_length(number: u64, place: u64) -> Long
     Long {
         number,
         place,
+        second: 0,
         units: 0,
         cells: exact_cells(0),
     }
@@ -178,6 +189,7 @@ fn tell_direction(aimed: Aimed) -> Toward
         Aimed::Of(d) => Toward {
             number: 0,
             place: 0,
+            second: 0,
             x: d.x,
             y: d.y,
         },
@@ -192,6 +204,7 @@ fn refuse_direction(number: u64, place: u64) -> Toward
     Toward {
         number,
         place,
+        second: 0,
         x: 0.0,
         y: 0.0,
     }
@@ -219,6 +232,7 @@ fn refuse_route(number: u64, place: u64) -> Found
     Found {
         number,
         place,
+        second: 0,
         cells: 0.0,
         units: 0,
         vertices: 0,
@@ -241,6 +255,7 @@ fn tell_route(answer: router::Answer) -> Found
         } => Found {
             number: 0,
             place: 0,
+            second: 0,
             cells,
             units,
             vertices: vertices as u64,
@@ -250,6 +265,7 @@ fn tell_route(answer: router::Answer) -> Found
         router::Answer::NoPath { expansions, tests } => Found {
             number: 8,
             place: 0,
+            second: 0,
             cells: 0.0,
             units: 0,
             vertices: 0,
@@ -294,12 +310,13 @@ pub extern "C" fn wexxolin_route(
     ))
 }
 
-fn refuse_board(number: u64, place: u64) -> Sides
-    ensures { λ r. ⌜ r ≡ toldBoard (judged noSides (refused number place 0)) ⌝ }
+fn refuse_board(number: u64, place: u64, second: u64) -> Sides
+    ensures { λ r. ⌜ r ≡ toldBoard (judged noSides (refused number place second)) ⌝ }
 {
     Sides {
         number,
         place,
+        second,
         width: 0,
         height: 0,
         nets: 0,
@@ -318,12 +335,17 @@ fn tell_board(answer: BoardAnswer) -> Sides
         } => Sides {
             number: 0,
             place: 0,
+            second: 0,
             width: width as u64,
             height: height as u64,
             nets: nets as u64,
         },
-        BoardAnswer::Refused(why) => refuse_board(why.number(), why.place() as u64),
-        BoardAnswer::Short => refuse_board(19, 0),
+        BoardAnswer::Refused(why) => refuse_board(
+            why.number(),
+            why.place() as u64,
+            why.second() as u64,
+        ),
+        BoardAnswer::Short => refuse_board(19, 0, 0),
     }
 }
 
@@ -335,12 +357,13 @@ pub extern "C" fn wexxolin_board(job: &[u8], board: &mut [u8]) -> Sides
     tell_board(read_board(job, board))
 }
 
-fn refuse_net(number: u64, place: u64) -> Net
-    ensures { λ r. ⌜ r ≡ toldNet (judged noNet (refused number place 0)) ⌝ }
+fn refuse_net(number: u64, place: u64, second: u64) -> Net
+    ensures { λ r. ⌜ r ≡ toldNet (judged noNet (refused number place second)) ⌝ }
 {
     Net {
         number,
         place,
+        second,
         net: 0,
         sx: 0,
         sy: 0,
@@ -363,14 +386,19 @@ fn tell_net(answer: NetAnswer) -> Net
         } => Net {
             number: 0,
             place: 0,
+            second: 0,
             net: number as u64,
             sx: sx as u64,
             sy: sy as u64,
             gx: gx as u64,
             gy: gy as u64,
         },
-        NetAnswer::Refused(why) => refuse_net(why.number(), why.place() as u64),
-        NetAnswer::NoNet => refuse_net(20, 0),
+        NetAnswer::Refused(why) => refuse_net(
+            why.number(),
+            why.place() as u64,
+            why.second() as u64,
+        ),
+        NetAnswer::NoNet => refuse_net(20, 0, 0),
     }
 }
 

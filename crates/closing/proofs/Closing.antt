@@ -47,19 +47,10 @@ module _ {b : Board} {sx sy gx gy : ℕ} {before after : Slices} {h : Handed Rou
 
 -- ---- the call from C, by its contract: the same of the struct's fields
 
-second-0 : (h : Handed Route) → h .second ≡ 0 → fields (toldRoute h) ≡ h
-second-0 h e = ap with-second (sym e)
-  where
-    with-second : ℕ → Handed Route
-    with-second n = record { number = h .number; place = h .place; second = n; values = h .values }
-
 -- a route for C is a route, as its struct has it
 pub c-routed : {b : Board} {sx sy gx gy : ℕ} {before after : Slices} {r : Found} → RoutedForC b sx sy gx gy before after r
     → Routed b sx sy gx gy before after (fields r)
-c-routed {b} {sx} {sy} {gx} {gy} {before} R = record {
-  row-is = ap fields (R .told) ∙ second-0 _ (row-bare b sx sy gx gy before .0);
-  after-is = R .after-is;
-}
+c-routed R = record { row-is = ap fields (R .told); after-is = R .after-is }
 
 module _ {b : Board} {sx sy gx gy : ℕ} {before after : Slices} {r : Found} (R : RoutedForC b sx sy gx gy before after r) where
   pub c-demand-1 : Numbered b sx sy gx gy before (fields r) × Kept b before after (fields r)

@@ -136,6 +136,6 @@ abbrev pub fields : Found → Handed Route
 fields r = record {
   number = r .number;
   place = r .place;
-  second = 0;
+  second = r .second;
   values = record { cells = r .cells; units = r .units; vertices = r .vertices; expansions = r .expansions; tests = r .tests };
 }

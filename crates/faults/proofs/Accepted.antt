@@ -12,15 +12,16 @@ use borrow.Author.Tests.{not-false, eqb-false, leb-true, ltb-true}
 use Rattle.laws.proofs.Tests.{and-left, and-right}
 use Rattle.board.specs.Handed.{passes, row, andThen, sideFits}
 use Rattle.board.proofs.Verdicts.{row-passes, both-pass}
-use Rattle.records.specs.Records.{records, lengthRow, inOrder}
+use Rattle.records.specs.Records.{records, byte, lengthRow, inOrder, unusedRow}
+use Rattle.records.proofs.Stray.{unused-passes}
 use Rattle.records.proofs.InOrder.{each-passes}
 use Rattle.faults.specs.declared.kinds.Record.{Record}
 use Rattle.faults.specs.declared.kinds.Record.the-variants.{Keepout}
 use Rattle.faults.proofs.kinds.Record.{the-type}
-use Rattle.faults.specs.Job.{longestJob, isBoard, isKeepout, isNet, width, height, left, top, right, bottom, netAt}
-use Rattle.faults.specs.Refusals.{isMisplaced, isLate, isOversized, isBadKeepout, isUnordered, isOn, isEndOff, recordRows, jobRows}
+use Rattle.faults.specs.Job.{longestJob, isBoard, isKeepout, isNet, usedBy, width, height, left, top, right, bottom, netAt}
+use Rattle.faults.specs.Refusals.{isUnknown, isMisplaced, isLate, isOversized, isBadKeepout, isUnordered, isOn, isEndOff, recordRows, jobRows}
 use Rattle.faults.specs.Inner.{Accepted}
-use Rattle.faults.proofs.kinds.Says.{isStray, Says, stray, board, keepout, net}
+use Rattle.faults.proofs.kinds.Says.{isUntidy, Says, unknown, unused, board, keepout, net}
 
 -- a test that is yes, with a second that is no
 second : (a b : Bool) → (a && not b) ≡ false → a ≡ true → b ≡ true
@@ -38,33 +39,38 @@ module _ {job : List ℕ} (a : Accepted job) where
 
   -- nothing is wrong with a record
   module _ (i : ℕ) (l : i < records job) where
-    clean : (isStray job i ≡ false) × (isMisplaced job i ≡ false) × (isOversized job i ≡ false) × (isBadKeepout job i ≡ false) × (isEndOff job i ≡ false)
+    clean : (isUnknown job i ≡ false) × (isUntidy job i ≡ false) × (isMisplaced job i ≡ false) × (isOversized job i ≡ false) × (isBadKeepout job i ≡ false) × (isEndOff job i ≡ false)
     unfolding recordRows
     clean =
         let all = each-passes (recordRows job) (records job) (both-pass (row (eqb (records job) 0) 12 0) _ after-length .1) i l in
-        let (by-13, after-13) = both-pass (row (isStray job i) 13 i) _ all in
-        let (by-12, after-12) = both-pass (row (isMisplaced job i) 12 i) _ after-13 in
+        let (by-13, after-13) = both-pass (row (isUnknown job i) 13 i) _ all in
+        let (by-23, after-23) = both-pass (unusedRow job (usedBy (byte job i 0)) i) _ after-13 in
+        let (by-12, after-12) = both-pass (row (isMisplaced job i) 12 i) _ after-23 in
         let (by-18, after-18) = both-pass (row (isLate job i) 18 i) _ after-12 in
         let (by-14, after-14) = both-pass (row (isOversized job i) 14 i) _ after-18 in
         let (by-15, after-15) = both-pass (row (isBadKeepout job i) 15 i) _ after-14 in
         let (by-17, by-16) = both-pass (row (isUnordered job i) 17 i) _ after-15 in (
-          row-passes (isStray job i) 13 i by-13,
+          row-passes (isUnknown job i) 13 i by-13,
+          unused-passes job (usedBy (byte job i 0)) i by-23,
           row-passes (isMisplaced job i) 12 i by-12,
           row-passes (isOversized job i) 14 i by-14,
           row-passes (isBadKeepout job i) 15 i by-15,
           row-passes (isEndOff job i) 16 i by-16,
         )
 
-    pub not-stray : isStray job i ≡ false
-    not-stray = clean .0
+    pub is-known : isUnknown job i ≡ false
+    is-known = clean .0
+
+    pub is-tidy : isUntidy job i ≡ false
+    is-tidy = clean .1
 
   -- ---- the board
 
   first-board : isBoard job 0 ≡ true
-  first-board = not-false (isBoard job 0) (clean 0 some-record .1)
+  first-board = not-false (isBoard job 0) (clean 0 some-record .2)
 
   sides-fit : (sideFits (width job) && sideFits (height job)) ≡ true
-  sides-fit = second (isBoard job 0) (sideFits (width job) && sideFits (height job)) (clean 0 some-record .2) first-board
+  sides-fit = second (isBoard job 0) (sideFits (width job) && sideFits (height job)) (clean 0 some-record .3) first-board
 
   pub width-fits : sideFits (width job) ≡ true
   width-fits = and-left (sideFits (width job)) (sideFits (height job)) sides-fit
@@ -79,7 +85,7 @@ module _ {job : List ℕ} (a : Accepted job) where
     keepout-below =
         let some : Bool = ltb (left job i) (right job i) && ltb (top job i) (bottom job i) in
         let on : Bool = leb (right job i) (width job) && leb (bottom job i) (height job) in
-        let fits = second (isKeepout job i) (some && on) (clean i l .3) k in
+        let fits = second (isKeepout job i) (some && on) (clean i l .4) k in
         let cells = and-left some on fits in
         let lies = and-right some on fits in (
           ltb-true (left job i) (right job i) (and-left (ltb (left job i) (right job i)) _ cells),
@@ -93,17 +99,18 @@ module _ {job : List ℕ} (a : Accepted job) where
   keepout-on {i} l (keepout e t) = keepout-below i l (rw t)
 
   -- one that says no keepout is none
-  pub no-keepout : (i : ℕ) → i < records job → {r : Record} → Says job i r → OneOf (0 ∷ 2 ∷ 3 ∷ []) (tagOf the-type r) → isKeepout job i ≡ false
-  no-keepout i l (stray e) k = absurd (true≢false (sym e ∙ not-stray i l))
+  pub no-keepout : (i : ℕ) → i < records job → {r : Record} → Says job i r → OneOf (0 ∷ 2 ∷ 3 ∷ 4 ∷ []) (tagOf the-type r) → isKeepout job i ≡ false
+  no-keepout i l (unknown u) k = absurd (true≢false (sym u ∙ is-known i l))
+  no-keepout i l (unused u e) k = absurd (true≢false (sym e ∙ is-tidy i l))
   no-keepout i l (board e t) k = rw t
-  no-keepout i l (keepout e t) k = absurd (miss (0 ∷ 2 ∷ 3 ∷ []) 1 tt k)
+  no-keepout i l (keepout e t) k = absurd (miss (0 ∷ 2 ∷ 3 ∷ 4 ∷ []) 1 tt k)
   no-keepout i l (net e t) k = rw t
 
   -- ---- a net
 
   module _ (i : ℕ) (l : i < records job) (n : isNet job i ≡ true) where
     ends-on : (isOn job (netAt job i .sx) (netAt job i .sy) && isOn job (netAt job i .gx) (netAt job i .gy)) ≡ true
-    ends-on = second (isNet job i) (isOn job (netAt job i .sx) (netAt job i .sy) && isOn job (netAt job i .gx) (netAt job i .gy)) (clean i l .4) n
+    ends-on = second (isNet job i) (isOn job (netAt job i .sx) (netAt job i .sy) && isOn job (netAt job i .gx) (netAt job i .gy)) (clean i l .5) n
 
     pub start-on : isOn job (netAt job i .sx) (netAt job i .sy) ≡ true
     start-on = and-left (isOn job (netAt job i .sx) (netAt job i .sy)) _ ends-on

@@ -1,31 +1,33 @@
 -- A job's refusals: the row of each and the way back, and how rows that refuse or pass are handed back. Assumes nothing.
 use Prim.Native.Nat.{ℕ, _<_}
 use mathlib.Core.Path.{_≡_, refl, sym, ap, _∙_}
-use mathlib.Core.Bool.{Bool, true, false, _&&_, cond, true≢false}
+use mathlib.Core.Bool.{Bool, true, false, _&&_, _||_, cond, true≢false}
 use native.Mathlib.Omega.{arith}
 use lib.Dec.{leb, ltb, eqb}
 use borrow.Author.Tests.{ltb-true, eqb-false, ne-eqb}
 use Rattle.board.specs.Handed.{Verdict, passes, refused, andThen, Handed, answer, unless, judged, numberIn, placeIn, secondIn}
 use Rattle.board.proofs.Verdicts.{Within}
 use Rattle.faults.specs.declared.JobRefusal.{JobRefusal}
-use Rattle.faults.specs.declared.JobRefusal.the-variants.{Long, Uneven, Order, Stray, Side, Keepout, End, Number, Late}
+use Rattle.faults.specs.declared.JobRefusal.the-variants.{Long, Uneven, Order, Unknown, Side, Keepout, End, Number, Late, Unused}
 use Rattle.faults.specs.Refusals.{refusalRow}
 
 -- ---- each refusal
 
 -- the numbers of a job's own rows
 abbrev pub isOwn : ℕ → Bool
-isOwn n = leb 10 n && leb n 18
+isOwn n = (leb 10 n && leb n 18) || eqb n 23
 
--- the refusal with this number and place
-abbrev pub refusalOf : (number place : ℕ) → JobRefusal
-refusalOf number place =
+-- the refusal with this number and these places
+abbrev pub refusalOf : (number place second : ℕ) → JobRefusal
+refusalOf number place second =
     cond (eqb number 10) Long
     (cond (eqb number 11) Uneven
     (cond (eqb number 12) (Order place)
-    (cond (eqb number 13) (Stray place)
+    (cond (eqb number 13) (Unknown place)
     (cond (eqb number 14) (Side place)
-    (cond (eqb number 15) (Keepout place) (cond (eqb number 16) (End place) (cond (eqb number 17) (Number place) (Late place))))))))
+    (cond (eqb number 15) (Keepout place)
+    (cond (eqb number 16) (End place)
+    (cond (eqb number 17) (Number place) (cond (eqb number 18) (Late place) (Unused place second)))))))))
 
 pub record Listed (why : JobRefusal) : Type 0 where
   pub number : ℕ
@@ -33,10 +35,10 @@ pub record Listed (why : JobRefusal) : Type 0 where
   pub second : ℕ
   pub row-is : refusalRow why ≡ refused number place second
   pub own : isOwn number ≡ true
-  pub back : refusalOf number place ≡ why
+  pub back : refusalOf number place second ≡ why
 
 entry : (why : JobRefusal) (number place second : ℕ) → refusalRow why ≡ refused number place second → isOwn number ≡ true
-    → refusalOf number place ≡ why → Listed why
+    → refusalOf number place second ≡ why → Listed why
 entry why number place second r o b =
     record { number = number; place = place; second = second; row-is = r; own = o; back = b }
 
@@ -44,12 +46,13 @@ pub listed : (why : JobRefusal) → Listed why
 listed Long = entry Long 10 0 0 refl refl refl
 listed Uneven = entry Uneven 11 0 0 refl refl refl
 listed (Order i) = entry (Order i) 12 i 0 refl refl refl
-listed (Stray i) = entry (Stray i) 13 i 0 refl refl refl
+listed (Unknown i) = entry (Unknown i) 13 i 0 refl refl refl
 listed (Side i) = entry (Side i) 14 i 0 refl refl refl
 listed (Keepout i) = entry (Keepout i) 15 i 0 refl refl refl
 listed (End i) = entry (End i) 16 i 0 refl refl refl
 listed (Number i) = entry (Number i) 17 i 0 refl refl refl
 listed (Late i) = entry (Late i) 18 i 0 refl refl refl
+listed (Unused i k) = entry (Unused i k) 23 i k refl refl refl
 
 -- no other number is a job's
 pub not-own : {why : JobRefusal} (k : Listed why) (m : ℕ) → isOwn m ≡ false → eqb (k .number) m ≡ false

@@ -1,17 +1,24 @@
 -- What src/kinds.rt says of one record. No public contract cites it, so nobody need believe this.
 use Prim.Native.Nat.{ℕ}
-use mathlib.Core.Bool.{_||_, cond}
+use mathlib.Core.Bool.{cond}
 use mathlib.Core.List.{List}
+use lib.Dec.{ltb}
+use Rattle.records.specs.Records.{recordBytes, byte, strayByte}
 use Rattle.faults.specs.declared.kinds.Record.{Record}
-use Rattle.faults.specs.declared.kinds.Record.the-variants.{Board, Keepout, Net, Stray}
-use Rattle.faults.specs.Job.{isBoard, isKeepout, coordinate, left, top, right, bottom, netAt}
-use Rattle.faults.specs.Refusals.{isUnknown, isUntidy}
+use Rattle.faults.specs.declared.kinds.Record.the-variants.{Board, Keepout, Net, Unknown, Unused}
+use Rattle.faults.specs.Job.{isBoard, isKeepout, usedBy, coordinate, left, top, right, bottom, netAt}
+use Rattle.faults.specs.Refusals.{isUnknown}
+
+-- the lowest stray byte of record i, by its type
+abbrev pub strayIn : List ℕ → ℕ → ℕ
+strayIn job i = strayByte job (usedBy (byte job i 0)) i
 
 -- what record i says
 unfoldable pub recordAt : List ℕ → ℕ → Record
 recordAt job i =
     let n = netAt job i in
-    cond (isUnknown job i || isUntidy job i) Stray
+    cond (isUnknown job i) Unknown
+    (cond (ltb (strayIn job i) recordBytes) (Unused (strayIn job i))
     (cond (isBoard job i) (Board (coordinate job i 2) (coordinate job i 3))
     (cond (isKeepout job i) (Keepout (left job i) (top job i) (right job i) (bottom job i))
-    (Net (n .number) (n .sx) (n .sy) (n .gx) (n .gy))))
+    (Net (n .number) (n .sx) (n .sy) (n .gx) (n .gy)))))

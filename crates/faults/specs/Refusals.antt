@@ -1,4 +1,4 @@
--- Why a job is refused: document 01's rows 10 to 18, in the order in which they are checked.
+-- Why a job is refused: document 01's rows 10 to 18, and document 02's 23, in the order in which they are checked.
 use Prim.Native.Nat.{ℕ, zero, suc}
 use mathlib.Core.Bool.{Bool, not, _&&_, _||_, cond}
 use mathlib.Core.List.{List}
@@ -6,19 +6,16 @@ use lib.Dec.{leb, ltb, eqb}
 use lib.ListN.{length}
 use Rattle.laws.specs.Below.{some}
 use Rattle.board.specs.Handed.{Verdict, refused, row, andThen, sideFits}
-use Rattle.records.specs.Records.{recordBytes, records, byte, lengthRow, inOrder, isStrayByte}
+use Rattle.records.specs.Records.{records, byte, lengthRow, inOrder, unusedRow}
 use Rattle.faults.specs.declared.JobRefusal.{JobRefusal}
-use Rattle.faults.specs.declared.JobRefusal.the-variants.{Long, Uneven, Order, Stray, Side, Keepout, End, Number, Late}
+use Rattle.faults.specs.declared.JobRefusal.the-variants.{Long, Uneven, Order, Unknown, Side, Keepout, End, Number, Late, Unused}
 use Rattle.faults.specs.Job.{longestJob, isBoard, isKeepout, isNet, usedBy, width, height, left, top, right, bottom, netAt}
 
 -- ---- what can be wrong with record i
 
--- 13: unknown type, or an unused byte not 0
+-- 13: unknown type
 abbrev pub isUnknown : List ℕ → ℕ → Bool
 isUnknown job i = not (isBoard job i || (isKeepout job i || isNet job i))
-
-unfoldable pub isUntidy : List ℕ → ℕ → Bool
-isUntidy job i = some recordBytes (isStrayByte job (usedBy (byte job i 0)) i)
 
 -- 12: record 0 is not a board, or a later one is
 abbrev pub isMisplaced : List ℕ → ℕ → Bool
@@ -54,16 +51,17 @@ isOn job x y = leb x (width job) && leb y (height job)
 abbrev pub isEndOff : List ℕ → ℕ → Bool
 isEndOff job i = let n = netAt job i in isNet job i && not (isOn job (n .sx) (n .sy) && isOn job (n .gx) (n .gy))
 
--- each record is checked 13, 12, 18, then 14, 15, or 17 before 16
+-- each record is checked 13, 23, 12, 18, then 14, 15, or 17 before 16
 unfoldable pub recordRows : List ℕ → ℕ → Verdict
 recordRows job i =
-    andThen (row (isUnknown job i || isUntidy job i) 13 i)
+    andThen (row (isUnknown job i) 13 i)
+    (andThen (unusedRow job (usedBy (byte job i 0)) i)
     (andThen (row (isMisplaced job i) 12 i)
     (andThen (row (isLate job i) 18 i)
     (andThen (row (isOversized job i) 14 i)
     (andThen (row (isBadKeepout job i) 15 i)
     (andThen (row (isUnordered job i) 17 i)
-    (row (isEndOff job i) 16 i))))))
+    (row (isEndOff job i) 16 i)))))))
 
 -- ---- the whole job
 
@@ -81,9 +79,10 @@ abbrev pub refusalRow : JobRefusal → Verdict
 refusalRow Long = refused 10 0 0
 refusalRow Uneven = refused 11 0 0
 refusalRow (Order i) = refused 12 i 0
-refusalRow (Stray i) = refused 13 i 0
+refusalRow (Unknown i) = refused 13 i 0
 refusalRow (Side i) = refused 14 i 0
 refusalRow (Keepout i) = refused 15 i 0
 refusalRow (End i) = refused 16 i 0
 refusalRow (Number i) = refused 17 i 0
 refusalRow (Late i) = refused 18 i 0
+refusalRow (Unused i k) = refused 23 i k

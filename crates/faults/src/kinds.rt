@@ -1,8 +1,7 @@
 // One record by itself: its type, and what it says.
 ghost use mathlib.Core.Path.{_≡_};
 ghost use Prim.Native.Nat.{_<_};
-ghost use Rattle.laws.specs.Below.{firstWhere};
-ghost use Rattle.records.specs.Records.{recordBytes, records, byte, isIn, isStrayByte};
+ghost use Rattle.records.specs.Records.{recordBytes, records, byte, isIn, isStrayByte, strayByte};
 ghost use Rattle.faults.specs.Job.{usedBy, coordinate};
 ghost use Rattle.faults.specs.Kinds.{recordAt};
 use records::RECORD;
@@ -15,7 +14,7 @@ const KEEPOUT: usize = 2;
 
 pub const NET: usize = 3;
 
-// What a record says; a keepout goes from (left, top) to just before (right, bottom).
+// What a record says; a keepout goes from (left, top) to just before (right, bottom). Unused has the byte.
 pub enum Record {
     Board {
         width: usize,
@@ -34,7 +33,8 @@ pub enum Record {
         gx: usize,
         gy: usize,
     },
-    Stray,
+    Unknown,
+    Unused(usize),
 }
 
 // The coordinate that byte k of record i gives.
@@ -62,29 +62,42 @@ fn is_used(typed: usize, k: usize) -> bool
     false
 }
 
-// The first unused byte of record i that is not 0, or the number of bytes.
-fn stray_byte(job: &[u8], i: usize, kind: usize) -> usize
-    requires { ⌜ i < records (now job) ⌝ }
-    ensures { λ r. ⌜ r ≡ firstWhere recordBytes (isStrayByte (now (job .entry)) (usedBy kind) i) ⌝ }
+// Whether byte k of record i is not used by that type, and not 0.
+fn is_stray(job: &[u8], i: usize, kind: usize, k: usize) -> bool
+    requires { ⌜ (i < records (now job)) × (k < recordBytes) ⌝ }
+    ensures { λ r. ⌜ r ≡ isStrayByte (now (job .entry)) (usedBy kind) i k ⌝ }
 {
-    for k in 0..RECORD {
-        if !is_used(kind, k) {
-            if byte_of(job, i, k) != 0 {
-                return k;
-            }
-        }
-    }
-    RECORD
+    !is_used(kind, k) & (byte_of(job, i, k) != 0)
 }
 
-// What record i says.
+// The lowest unused byte of record i that is not 0, or the number of bytes.
+fn stray_byte(job: &[u8], i: usize, kind: usize) -> usize
+    requires { ⌜ i < records (now job) ⌝ }
+    ensures { λ r. ⌜ r ≡ strayByte (now (job .entry)) (usedBy kind) i ⌝ }
+{
+    let mut lowest = RECORD;
+    for k in 0..RECORD {
+        let stray = is_stray(job, i, kind, k);
+        if stray & (lowest == RECORD) {
+            lowest = k;
+        }
+    }
+    lowest
+}
+
+// What record i says; an unknown type is told before an unused byte.
 pub fn record_at(job: &[u8], i: usize) -> Record
     requires { ⌜ i < records (now job) ⌝ }
     ensures { λ r. ⌜ r ≡ recordAt (now (job .entry)) i ⌝ }
 {
     let kind = byte_of(job, i, 0);
-    if stray_byte(job, i, kind) < RECORD {
-        return Record::Stray;
+    let stray = stray_byte(job, i, kind);
+    let known = (kind == BOARD) | ((kind == KEEPOUT) | (kind == NET));
+    if !known {
+        return Record::Unknown;
+    }
+    if stray < RECORD {
+        return Record::Unused(stray);
     }
     let number = byte_of(job, i, 1);
     let x = coordinate_of(job, i, 2);
@@ -105,14 +118,11 @@ pub fn record_at(job: &[u8], i: usize) -> Record
             bottom: to_y,
         };
     }
-    if kind == NET {
-        return Record::Net {
-            number,
-            sx: x,
-            sy: y,
-            gx: to_x,
-            gy: to_y,
-        };
+    Record::Net {
+        number,
+        sx: x,
+        sy: y,
+        gx: to_x,
+        gy: to_y,
     }
-    Record::Stray
 }

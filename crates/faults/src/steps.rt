@@ -139,14 +139,15 @@ fn net_step(
     })
 }
 
-// Judges record i: 13, 12, 18, then 14, 15, or 17 before 16.
+// Judges record i: 13, 23, 12, 18, then 14, 15, or 17 before 16.
 fn judge(job: &[u8], i: usize, past: Progress) -> Step
     requires { ⌜ (length (now job) ≤ longestJob) × (i < records (now job)) ⌝ }
     requires { ⌜ past ≡ progress (now job) i ⌝ }
     ensures { λ r. ⌜ handedStep r ≡ recordStep (now (job .entry)) i ⌝ }
 {
     match record_at(job, i) {
-        Record::Stray => Step::Refused(JobRefusal::Stray(i)),
+        Record::Unknown => Step::Refused(JobRefusal::Unknown(i)),
+        Record::Unused(k) => Step::Refused(JobRefusal::Unused { record: i, byte: k }),
         Record::Board { width, height } => board_step(i, width, height),
         Record::Keepout {
             left,

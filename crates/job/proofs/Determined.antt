@@ -19,13 +19,13 @@ boardOf : Handed Sides → BoardAnswer
 boardOf h =
     let v = h .values in
     cond (eqb (h .number) 0) (board-read.Board (v .width) (v .height) (v .nets))
-    (cond (eqb (h .number) 19) board-read.Short (board-read.Refused (refusalOf (h .number) (h .place))))
+    (cond (eqb (h .number) 19) board-read.Short (board-read.Refused (refusalOf (h .number) (h .place) (h .second))))
 
 netOf : Handed Net → NetAnswer
 netOf h =
     let v = h .values in
     cond (eqb (h .number) 0) (net-read.Net (v .number) (v .sx) (v .sy) (v .gx) (v .gy))
-    (cond (eqb (h .number) 20) net-read.NoNet (net-read.Refused (refusalOf (h .number) (h .place))))
+    (cond (eqb (h .number) 20) net-read.NoNet (net-read.Refused (refusalOf (h .number) (h .place) (h .second))))
 
 board-back : (r : BoardAnswer) → boardOf (handedBoard r) ≡ r
 unfolding boardOf

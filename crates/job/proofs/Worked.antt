@@ -8,7 +8,7 @@ use Rattle.laws.specs.Below.{some, howMany, firstWhere}
 use Rattle.board.specs.Handed.{Handed, refused, answer, judged}
 use Rattle.records.specs.Records.{byte, inOrder}
 use Rattle.faults.specs.Job.{longestJob, usedBy, coordinate, inKeepout, cellsUpTo, boardCells, Net, nets, netRecord}
-use Rattle.faults.specs.Refusals.{isUntidy, netBefore, recordRows, jobRows}
+use Rattle.faults.specs.Refusals.{netBefore, recordRows, jobRows}
 use Rattle.job.specs.Answers.{Sides, noSides, boardRow, boardAfter, noNet, netRow}
 
 abbrev pub board2 : List ℕ
@@ -38,6 +38,10 @@ net number sx sy gx gy = answer (record { number = number; sx = sx; sy = sy; gx 
 abbrev no : (number place : ℕ) → Handed Sides
 no number place = judged noSides (refused number place 0)
 
+-- an unused byte has its record and its byte
+abbrev unused : (place byte : ℕ) → Handed Sides
+unused place byte = judged noSides (refused 23 place byte)
+
 pub example-read : (boardCells example ≡ 0 ∷ 1 ∷ 0 ∷ 0 ∷ [])
     × (nets example ≡ 2)
     × (netRecord example 0 ≡ 2)
@@ -49,12 +53,12 @@ pub example-read : (boardCells example ≡ 0 ∷ 1 ∷ 0 ∷ 0 ∷ [])
     × (netRow example 0 ≡ net 1 0 0 2 1)
     × (netRow example 1 ≡ net 2 0 0 0 0)
     × (netRow example 2 ≡ judged noNet (refused 20 0 0))
-unfolding some howMany firstWhere byte inOrder usedBy coordinate isUntidy netBefore recordRows jobRows inKeepout cellsUpTo boardRow boardAfter netRow
+unfolding some howMany firstWhere byte inOrder usedBy coordinate netBefore recordRows jobRows inKeepout cellsUpTo boardRow boardAfter netRow
 example-read = (refl, refl, refl, refl, refl, refl, refl, refl, refl, refl, refl)
 
 -- the empty job, and a job of only a board
 pub edges-read : (boardRow [] 0 ≡ no 12 0) × (boardRow board2 4 ≡ sides 2 2 0) × (netRow board2 0 ≡ judged noNet (refused 20 0 0))
-unfolding some howMany firstWhere byte inOrder usedBy coordinate isUntidy netBefore recordRows jobRows inKeepout cellsUpTo boardRow boardAfter netRow
+unfolding some howMany firstWhere byte inOrder usedBy coordinate netBefore recordRows jobRows inKeepout cellsUpTo boardRow boardAfter netRow
 edges-read = (refl, refl, refl)
 
 -- each refusal of a job; of several the one that is checked first
@@ -66,7 +70,9 @@ pub refusals-read : (boardRow (1 ∷ []) 0 ≡ no 11 0)
     × (boardRow net1 0 ≡ no 12 0)
     × (boardRow (board2 ++ board2) 4 ≡ no 12 1)
     × (boardRow (4 ∷ 0 ∷ 0 ∷ 0 ∷ 0 ∷ 0 ∷ 0 ∷ 0 ∷ []) 0 ≡ no 13 0)
-    × (boardRow (board2 ++ 3 ∷ 1 ∷ 0 ∷ 0 ∷ 2 ∷ 1 ∷ 0 ∷ 7 ∷ []) 4 ≡ no 13 1)
+    × (boardRow (board2 ++ 3 ∷ 1 ∷ 0 ∷ 0 ∷ 2 ∷ 1 ∷ 0 ∷ 7 ∷ []) 4 ≡ unused 1 7)
+    × (boardRow (1 ∷ 9 ∷ 0 ∷ 2 ∷ 9 ∷ 0 ∷ 0 ∷ 9 ∷ []) 4 ≡ unused 0 1)
+    × (boardRow (4 ∷ 9 ∷ 0 ∷ 0 ∷ 0 ∷ 0 ∷ 0 ∷ 0 ∷ []) 0 ≡ no 13 0)
     × (boardRow (1 ∷ 0 ∷ 0 ∷ 2 ∷ 0 ∷ 0 ∷ 0 ∷ 0 ∷ []) 200 ≡ no 14 0)
     × (boardRow (board2 ++ 2 ∷ 0 ∷ 1 ∷ 0 ∷ 1 ∷ 1 ∷ 0 ∷ 0 ∷ []) 4 ≡ no 15 1)
     × (boardRow (board2 ++ 2 ∷ 0 ∷ 1 ∷ 0 ∷ 3 ∷ 1 ∷ 0 ∷ 0 ∷ []) 4 ≡ no 15 1)
@@ -74,5 +80,5 @@ pub refusals-read : (boardRow (1 ∷ []) 0 ≡ no 11 0)
     × (boardRow (board2 ++ net1 ++ net1) 4 ≡ no 17 2)
     × (boardRow (board2 ++ 3 ∷ 0 ∷ 0 ∷ 0 ∷ 3 ∷ 1 ∷ 0 ∷ 0 ∷ []) 4 ≡ no 17 1)
     × (boardRow (board2 ++ net1 ++ keepout) 4 ≡ no 18 2)
-unfolding some howMany firstWhere byte inOrder usedBy coordinate isUntidy netBefore recordRows jobRows inKeepout cellsUpTo boardRow boardAfter netRow
-refusals-read = (refl, refl, refl, refl, refl, refl, refl, refl, refl, refl, refl, refl)
+unfolding some howMany firstWhere byte inOrder usedBy coordinate netBefore recordRows jobRows inKeepout cellsUpTo boardRow boardAfter netRow
+refusals-read = (refl, refl, refl, refl, refl, refl, refl, refl, refl, refl, refl, refl, refl, refl)

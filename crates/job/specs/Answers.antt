@@ -1,4 +1,4 @@
--- What the job calls hand back: a board or a net, or one of document 01's numbers 10 to 20.
+-- What the job calls hand back: a board or a net, or one of the numbers 10 to 20 and 23.
 use Prim.Native.Nat.{ℕ, _*_}
 use mathlib.Core.Path.{_≡_}
 use mathlib.Core.Bool.{cond}
@@ -30,7 +30,7 @@ handedBoard (board-read.Board w h n) = answer (record { width = w; height = h; n
 handedBoard (board-read.Refused why) = judged noSides (refusalRow why)
 handedBoard board-read.Short = judged noSides (refused 19 0 0)
 
--- 10 to 18, then 19: the lent slice is shorter than the cells
+-- 10 to 18 and 23, then 19: the lent slice is shorter than the cells
 unfoldable pub boardRow : List ℕ → (lent : ℕ) → Handed Sides
 boardRow job lent =
     unless noSides (andThen (jobRows job) (row (ltb lent (width job * height job)) 19 0))
@@ -56,7 +56,7 @@ handedNet (net-read.Net n sx sy gx gy) = answer (record { number = n; sx = sx; s
 handedNet (net-read.Refused why) = judged noNet (refusalRow why)
 handedNet net-read.NoNet = judged noNet (refused 20 0 0)
 
--- 10 to 18, then 20: no net with that index
+-- 10 to 18 and 23, then 20: no net with that index
 unfoldable pub netRow : List ℕ → (index : ℕ) → Handed Net
 netRow job index =
     unless noNet (andThen (jobRows job) (row (leb (nets job) index) 20 0)) (answer (netAt job (netRecord job index)))

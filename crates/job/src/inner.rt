@@ -24,7 +24,7 @@ fn find_net(job: &[u8], index: usize) -> Record
         }
         before += 1;
     }
-    Record::Stray
+    Record::Unknown
 }
 
 // The net with that index, counted from 0, of a job that has been accepted already.

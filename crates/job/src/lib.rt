@@ -15,7 +15,7 @@ use inner::net_at;
 mod cells;
 pub mod inner;
 
-// What a board read answers: the sides and how many nets there are, or 10 to 18, or 19.
+// What a board read answers: the sides and how many nets there are, or 10 to 18 or 23, or 19.
 pub enum BoardAnswer {
     Board {
         width: usize,
@@ -26,7 +26,7 @@ pub enum BoardAnswer {
     Short,
 }
 
-// What a net read answers: the net's number, start (sx, sy) and goal (gx, gy), or 10 to 18, or 20.
+// What a net read answers: the net's number, start (sx, sy) and goal (gx, gy), or 10 to 18 or 23, or 20.
 pub enum NetAnswer {
     Net {
         number: usize,

@@ -28,6 +28,9 @@ const VERTICES: usize = (WIDEST + 1) * (WIDEST + 1);
 
 const OUT: i32 = 1;
 
+// The number of the one refusal that names a byte beside the record.
+const UNUSED: u64 = 23;
+
 // The buffers' sizes are those that the definition has for such a board.
 fn cell_room() -> usize
     ensures { λ r. ⌜ r ≡ cellRoom ⌝ }
@@ -41,11 +44,16 @@ fn vertex_room() -> usize
     VERTICES
 }
 
-fn write_refusal(number: u64, place: usize) {
+// A refused job's line: its number and its place, and for an unused byte the record and the byte.
+fn write_refusal(number: u64, place: usize, second: usize) {
     io::write_all(OUT, b"refused ");
     io::print_decimal(OUT, number);
     io::write_all(OUT, b" at ");
     io::print_decimal(OUT, place as u64);
+    if number == UNUSED {
+        io::write_all(OUT, b" ");
+        io::print_decimal(OUT, second as u64);
+    }
     io::write_all(OUT, b"\n");
 }
 
@@ -166,8 +174,8 @@ fn serve(job: &[u8]) {
             let cells = &board[..width * height];
             write_nets(job, cells, width, height, nets);
         }
-        BoardAnswer::Refused(why) => write_refusal(why.number(), why.place()),
-        BoardAnswer::Short => write_refusal(19, 0),
+        BoardAnswer::Refused(why) => write_refusal(why.number(), why.place(), why.second()),
+        BoardAnswer::Short => write_refusal(19, 0, 0),
     }
 }
 

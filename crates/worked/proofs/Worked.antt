@@ -1,7 +1,7 @@
 -- The worked rows hold, by computation; and so does net 1 of the example job. Assumes nothing.
 use mathlib.Core.Path.{_≡_, refl}
 use mathlib.Core.List.{[], _∷_}
-use Rattle.laws.specs.Below.{every, some}
+use Rattle.laws.specs.Below.{every, some, firstWhere}
 use Rattle.board.specs.Board.{blocked}
 use Rattle.board.specs.Handed.{refused, judged, firstBad, boardRows, endRows}
 use Rattle.length.specs.Root.{root, rootIn}
@@ -15,7 +15,7 @@ use Rattle.problem.specs.Problem.{problem}
 use Rattle.router.specs.Answers.{workRow, searchRow, routeRow, found}
 use Rattle.records.specs.Records.{byte, inOrder}
 use Rattle.faults.specs.Job.{usedBy, coordinate}
-use Rattle.faults.specs.Refusals.{isUntidy, netBefore, recordRows, jobRows}
+use Rattle.faults.specs.Refusals.{netBefore, recordRows, jobRows}
 use Rattle.job.specs.Answers.{noSides, boardRow}
 use Rattle.worked.specs.Table.{AllHold, table, corner, enough}
 
@@ -33,5 +33,5 @@ net-1 = (refl, refl)
 
 -- a job's board with a side of 64 is refused: the one worked row of a job that knows the largest side
 pub side-64 : boardRow (1 ∷ 0 ∷ 64 ∷ 2 ∷ 0 ∷ 0 ∷ 0 ∷ 0 ∷ []) 200 ≡ judged noSides (refused 14 0 0)
-unfolding some byte inOrder usedBy coordinate isUntidy netBefore recordRows jobRows boardRow
+unfolding some firstWhere byte inOrder usedBy coordinate netBefore recordRows jobRows boardRow
 side-64 = refl

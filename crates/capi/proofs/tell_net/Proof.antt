@@ -12,10 +12,11 @@ returns c = told-as handedNet toldNet (c .before .answer .given .1) refl
 
 returns-2 : tie.Need-returns-2
 returns-2 c =
-    let p = c .before in
+    let s = c .before in
+    let p = s .before in
     let n = p .before in
     let g = n .before .before .answer2 .given in
-    told-refused handedNet toldNet noNet (g .1) refl (job-refusal-is (g .0 .0) (n .number .ensures) (p .place .ensures)) (c .refuse-net .ensures)
+    told-refused handedNet toldNet noNet (g .1) refl (job-refusal-is (g .0 .0) (n .number .ensures) (p .place .ensures) (s .second .ensures)) (c .refuse-net .ensures)
 
 returns-3 : tie.Need-returns-3
 returns-3 c = told-as handedNet toldNet (c .before .enum-told .given .1) (c .refuse-net2 .ensures)
@@ -26,6 +27,7 @@ tell-net-spec =
     (tie.spec
     (λ c. search needs)
     (λ c. search needs)
+    (λ c κs. search needs)
     (λ c κs. search needs)
     (λ c κs. search needs)
     (λ c κs. search needs)

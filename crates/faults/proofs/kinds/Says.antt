@@ -4,93 +4,107 @@ use mathlib.Core.Path.{_≡_, sym, _∙_}
 use mathlib.Core.Logic.{⊎-elim}
 use mathlib.Core.List.{List}
 use mathlib.Core.Bool.{Bool, true, false, not, _||_}
-use lib.Dec.{ltb}
+use lib.Dec.{ltb, eqb}
 use borrow.Author.Tests.{eqb-true, ne-eqb, not-false, lt-ltb, le-ltb}
-use Rattle.laws.specs.Below.{firstWhere}
-use Rattle.laws.proofs.Tests.{or-neither, bool-cases, or-right}
-use Rattle.laws.proofs.Below.{some-first}
-use Rattle.records.specs.Records.{recordBytes, byte, isStrayByte}
+use Rattle.laws.proofs.Tests.{bool-cases}
+use Rattle.records.specs.Records.{recordBytes, byte, strayByte}
 use Rattle.faults.specs.declared.kinds.Record.{Record}
-use Rattle.faults.specs.declared.kinds.Record.the-variants.{Board, Keepout, Net, Stray}
+use Rattle.faults.specs.declared.kinds.Record.the-variants.{Board, Keepout, Net, Unknown, Unused}
 use Rattle.faults.specs.Job.{isBoard, isKeepout, isNet, usedBy, coordinate, left, top, right, bottom, netAt}
-use Rattle.faults.specs.Refusals.{isUnknown, isUntidy}
-use Rattle.faults.specs.Kinds.{recordAt}
+use Rattle.faults.specs.Refusals.{isUnknown}
+use Rattle.faults.specs.Kinds.{strayIn, recordAt}
 
--- what 13 is judged by
-abbrev pub isStray : List ℕ → ℕ → Bool
-isStray job i = isUnknown job i || isUntidy job i
+-- what 23 is judged by
+abbrev pub isUntidy : List ℕ → ℕ → Bool
+isUntidy job i = ltb (strayIn job i) recordBytes
 
 -- what is known of a record by what it says
 pub data Says (job : List ℕ) (i : ℕ) : Record → Type 0 where
-  stray : isStray job i ≡ true → Says job i Stray
-  board : isStray job i ≡ false → byte job i 0 ≡ 1 → Says job i (Board (coordinate job i 2) (coordinate job i 3))
-  keepout : isStray job i ≡ false → byte job i 0 ≡ 2
+  unknown : isUnknown job i ≡ true → Says job i Unknown
+  unused : isUnknown job i ≡ false → isUntidy job i ≡ true → Says job i (Unused (strayIn job i))
+  board : isUntidy job i ≡ false → byte job i 0 ≡ 1 → Says job i (Board (coordinate job i 2) (coordinate job i 3))
+  keepout : isUntidy job i ≡ false → byte job i 0 ≡ 2
       → Says job i (Keepout (left job i) (top job i) (right job i) (bottom job i))
-  net : isStray job i ≡ false → byte job i 0 ≡ 3
+  net : isUntidy job i ≡ false → byte job i 0 ≡ 3
       → Says job i (Net (netAt job i .number) (netAt job i .sx) (netAt job i .sy) (netAt job i .gx) (netAt job i .gy))
 
--- a record that is not stray has one of the three types
-typed : (b k n : Bool) → not (b || (k || n)) ≡ false → b ≡ false → k ≡ false → n ≡ true
-typed b k n h p q = rw (p, q) at (not-false (b || (k || n)) h)
+-- a type is one of the three
+abbrev pub isKnown : (kind : ℕ) → Bool
+isKnown kind = eqb kind 1 || (eqb kind 2 || eqb kind 3)
+
+-- a record of a known type with no stray byte
+pub record Neat (job : List ℕ) (i kind : ℕ) : Type 0 where
+  pub type-is : kind ≡ byte job i 0
+  pub known : isKnown kind ≡ true
+  pub tidy : isUntidy job i ≡ false
+
+-- a type that is known, and not the first two, is the third
+typed : (b k n : Bool) → (b || (k || n)) ≡ true → b ≡ false → k ≡ false → n ≡ true
+typed b k n h p q = rw (p, q) at h
 
 module _ (job : List ℕ) (i : ℕ) where
   says : Says job i (recordAt job i)
   unfolding recordAt
   says =
       ⊎-elim
-      (λ (e : isStray job i ≡ true). rw e (stray e))
-      (λ (e : isStray job i ≡ false).
+      (λ (u : isUnknown job i ≡ true). rw u (unknown u))
+      (λ (u : isUnknown job i ≡ false).
       ⊎-elim
-      (λ (b : isBoard job i ≡ true). rw (e, b) (board e (eqb-true (byte job i 0) 1 b)))
+      (λ (e : isUntidy job i ≡ true). rw (u, e) (unused u e))
+      (λ (e : isUntidy job i ≡ false).
+      ⊎-elim
+      (λ (b : isBoard job i ≡ true). rw (u, e, b) (board e (eqb-true (byte job i 0) 1 b)))
       (λ (b : isBoard job i ≡ false).
       ⊎-elim
-      (λ (k : isKeepout job i ≡ true). rw (e, b, k) (keepout e (eqb-true (byte job i 0) 2 k)))
+      (λ (k : isKeepout job i ≡ true). rw (u, e, b, k) (keepout e (eqb-true (byte job i 0) 2 k)))
       (λ (k : isKeepout job i ≡ false).
-      let n = typed (isBoard job i) (isKeepout job i) (isNet job i) (or-neither (isUnknown job i) (isUntidy job i) e .0) b k in
-      rw (e, b, k) (net e (eqb-true (byte job i 0) 3 n)))
+      let n = typed (isBoard job i) (isKeepout job i) (isNet job i) (not-false (isBoard job i || (isKeepout job i || isNet job i)) u) b k in
+      rw (u, e, b, k) (net e (eqb-true (byte job i 0) 3 n)))
       (bool-cases (isKeepout job i)))
       (bool-cases (isBoard job i)))
-      (bool-cases (isStray job i))
+      (bool-cases (isUntidy job i)))
+      (bool-cases (isUnknown job i))
 
   pub said : {r : Record} → r ≡ recordAt job i → Says job i r
   said e = rw e says
 
-  -- ---- what it says, by its type and its first stray byte
+  -- ---- what it says, by its type and its lowest stray byte
 
-  -- the first unused byte that is not 0
-  abbrev pub firstStray : (kind : ℕ) → ℕ
-  firstStray kind = firstWhere recordBytes (isStrayByte job (usedBy kind) i)
+  module _ {kind stray : ℕ} (known : kind ≡ byte job i 0) (lowest : stray ≡ strayByte job (usedBy kind) i) where
+    found : stray ≡ strayIn job i
+    found = rw known at lowest
 
-  module _ {kind : ℕ} (known : kind ≡ byte job i 0) where
-    untidiness : isUntidy job i ≡ ltb (firstStray kind) recordBytes
-    unfolding isUntidy
-    untidiness = rw known (some-first (isStrayByte job (usedBy (byte job i 0)) i) recordBytes)
-
-    pub says-untidy : firstStray kind < recordBytes → Stray ≡ recordAt job i
+    pub says-unknown : isKnown kind ≡ false → Unknown ≡ recordAt job i
     unfolding recordAt
-    says-untidy l = rw (or-right (isUnknown job i) (untidiness ∙ lt-ltb (firstStray kind) recordBytes l))
+    says-unknown u = let t : byte job i 0 ≡ kind = sym known in rw (t, u)
 
-    module _ (tidy : recordBytes ≤ firstStray kind) where
-      neat : isUntidy job i ≡ false
-      neat = untidiness ∙ le-ltb (firstStray kind) recordBytes tidy
-
-      -- with its numbers as they were read
-      pub says-board : {w h : ℕ} → kind ≡ 1 → w ≡ coordinate job i 2 → h ≡ coordinate job i 3 → Board w h ≡ recordAt job i
+    module _ (typed-so : isKnown kind ≡ true) where
+      pub says-unused : stray < recordBytes → Unused stray ≡ recordAt job i
       unfolding recordAt
-      says-board t x y = rw (x, y, neat, sym known ∙ t)
-
-      pub says-keepout : {a b c d : ℕ} → kind ≡ 2 → a ≡ left job i → b ≡ top job i → c ≡ right job i → d ≡ bottom job i
-          → Keepout a b c d ≡ recordAt job i
-      unfolding recordAt
-      says-keepout t x y x′ y′ = rw (x, y, x′, y′, neat, sym known ∙ t)
-
-      pub says-net : {n a b c d : ℕ} → kind ≡ 3 → n ≡ netAt job i .number → a ≡ netAt job i .sx → b ≡ netAt job i .sy → c ≡ netAt job i .gx → d ≡ netAt job i .gy
-          → Net n a b c d ≡ recordAt job i
-      unfolding recordAt
-      says-net t m x y x′ y′ = rw (m, x, y, x′, y′, neat, sym known ∙ t)
-
-      pub says-unknown : (kind ≡ 1 → ⊥) → (kind ≡ 2 → ⊥) → (kind ≡ 3 → ⊥) → Stray ≡ recordAt job i
-      unfolding recordAt
-      says-unknown b k n =
+      says-unused l =
+          let e : isUntidy job i ≡ true = rw (sym found) (lt-ltb stray recordBytes l) in
           let t : byte job i 0 ≡ kind = sym known in
-          rw (t, ne-eqb kind 1 b, ne-eqb kind 2 k, ne-eqb kind 3 n)
+          let u : isUnknown job i ≡ false = rw (t, typed-so) in
+          rw (found, u, e)
+
+      pub is-neat : recordBytes ≤ stray → Neat job i kind
+      is-neat l = record { type-is = known; known = typed-so; tidy = rw (sym found) (le-ltb stray recordBytes l) }
+
+-- ---- what a neat one says, with its numbers as they were read
+
+module _ {job : List ℕ} {i kind : ℕ} (r : Neat job i kind) where
+  pub says-board : {w h : ℕ} → kind ≡ 1 → w ≡ coordinate job i 2 → h ≡ coordinate job i 3 → Board w h ≡ recordAt job i
+  unfolding recordAt
+  says-board t x y = rw (x, y, r .tidy, sym (r .type-is) ∙ t)
+
+  pub says-keepout : {a b c d : ℕ} → kind ≡ 2 → a ≡ left job i → b ≡ top job i → c ≡ right job i → d ≡ bottom job i
+      → Keepout a b c d ≡ recordAt job i
+  unfolding recordAt
+  says-keepout t x y x′ y′ = rw (x, y, x′, y′, r .tidy, sym (r .type-is) ∙ t)
+
+  pub says-net : {n a b c d : ℕ} → (kind ≡ 1 → ⊥) → (kind ≡ 2 → ⊥) → n ≡ netAt job i .number → a ≡ netAt job i .sx → b ≡ netAt job i .sy
+      → c ≡ netAt job i .gx → d ≡ netAt job i .gy → Net n a b c d ≡ recordAt job i
+  unfolding recordAt
+  says-net o k m x y x′ y′ =
+      let t = eqb-true kind 3 (typed (eqb kind 1) (eqb kind 2) (eqb kind 3) (r .known) (ne-eqb kind 1 o) (ne-eqb kind 2 k)) in
+      rw (m, x, y, x′, y′, r .tidy, sym (r .type-is) ∙ t)

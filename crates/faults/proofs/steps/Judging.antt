@@ -12,21 +12,22 @@ use lib.ListN.{length}
 use borrow.Author.Tests.{le-ltb, eq-eqb, ne-eqb}
 use Rattle.laws.specs.Below.{howMany}
 use Rattle.laws.proofs.Below.{many-le, some-many}
-use Rattle.board.specs.Handed.{Verdict, passes, refused, row, andThen, Handed, answer, unless, sideFits}
+use Rattle.board.specs.Handed.{Verdict, passes, refused, row, andThen, Handed, answer, unless, judged, sideFits}
 use Rattle.board.proofs.Verdicts.{row-within, then-within}
-use Rattle.records.specs.Records.{recordBytes, records, byte, lengthRow, inOrder}
+use Rattle.records.specs.Records.{recordBytes, records, byte, lengthRow, inOrder, unusedRow}
+use Rattle.records.proofs.Stray.{unused-within}
 use Rattle.records.proofs.InOrder.{first-refused, order-within}
 use Rattle.faults.specs.declared.JobRefusal.{JobRefusal}
-use Rattle.faults.specs.declared.kinds.Record.the-variants.{Board, Keepout, Net, Stray}
+use Rattle.faults.specs.declared.kinds.Record.the-variants.{Board, Keepout, Net, Unknown, Unused}
 use Rattle.faults.specs.declared.steps.Progress.{Progress}
 use Rattle.faults.specs.declared.steps.Step.{Step}
 use Rattle.faults.specs.declared.steps.Step.the-variants.{Next, Refused}
 use Rattle.faults.proofs.steps.Step.{the-type}
-use Rattle.faults.specs.Job.{longestJob, isBoard, isKeepout, isNet, coordinate, width, height, left, top, right, bottom, netAt}
-use Rattle.faults.specs.Refusals.{isMisplaced, isLate, isOversized, isBadKeepout, netBefore, isUnordered, isEndOff, recordRows, jobRows, refusalRow}
+use Rattle.faults.specs.Job.{longestJob, isBoard, isKeepout, isNet, usedBy, coordinate, width, height, left, top, right, bottom, netAt}
+use Rattle.faults.specs.Refusals.{isUnknown, isMisplaced, isLate, isOversized, isBadKeepout, netBefore, isUnordered, isEndOff, recordRows, jobRows, refusalRow}
 use Rattle.faults.specs.Inner.{Accepted}
 use Rattle.faults.specs.Steps.{progress, nothing, handedStep, whyOf, recordStep, jobStep, boardStep, keepoutStep, netStep}
-use Rattle.faults.proofs.kinds.Says.{isStray, Says, stray, board, keepout, net}
+use Rattle.faults.proofs.kinds.Says.{isUntidy, Says, unknown, unused, board, keepout, net}
 use Rattle.faults.proofs.Refusing.{Numbered, answered, refuses, listed}
 
 -- rows that pass after others change nothing
@@ -37,7 +38,7 @@ nothing-more (refused n p s) = refl
 -- ---- each type of record
 
 module _ (job : List ℕ) where
-  board-at : (i : ℕ) → isStray job i ≡ false → byte job i 0 ≡ 1 → recordStep job i ≡ boardStep i (coordinate job i 2) (coordinate job i 3)
+  board-at : (i : ℕ) → isUntidy job i ≡ false → byte job i 0 ≡ 1 → recordStep job i ≡ boardStep i (coordinate job i 2) (coordinate job i 3)
   unfolding recordStep recordRows boardStep progress netBefore howMany
   board-at zero e t = rw (e, t, nothing-more (row (not (sideFits (width job) && sideFits (height job))) 14 0))
   board-at (suc i) e t = rw (e, t, eqb·suc-zero i)
@@ -48,7 +49,7 @@ module _ (job : List ℕ) where
       (ltb (left job i) (right job i) && ltb (top job i) (bottom job i))
       && (leb (right job i) (width job) && leb (bottom job i) (height job))
 
-  keepout-at : (i : ℕ) → isStray job i ≡ false → byte job i 0 ≡ 2
+  keepout-at : (i : ℕ) → isUntidy job i ≡ false → byte job i 0 ≡ 2
       → recordStep job i ≡ keepoutStep (progress job i) i (left job i) (top job i) (right job i) (bottom job i)
   unfolding recordStep recordRows keepoutStep progress netBefore howMany
   keepout-at zero e t = rw (e, t)
@@ -56,7 +57,7 @@ module _ (job : List ℕ) where
       let no-more : howMany (suc i) (isNet job) + 0 ≡ howMany (suc i) (isNet job) = omega arith in
       rw (e, some-many (isNet job) (suc i), t, eqb·suc-zero i, eqb·suc-zero (suc i), no-more, nothing-more (row (not (fits (suc i))) 15 (suc i)))
 
-  net-at : (i : ℕ) → isStray job i ≡ false → byte job i 0 ≡ 3
+  net-at : (i : ℕ) → isUntidy job i ≡ false → byte job i 0 ≡ 3
       → recordStep job i ≡ netStep (progress job i) i (netAt job i .number) (netAt job i .sx) (netAt job i .sy) (netAt job i .gx) (netAt job i .gy)
   unfolding recordStep recordRows netStep progress netBefore howMany
   net-at zero e t = rw (e, t)
@@ -65,9 +66,13 @@ module _ (job : List ℕ) where
 -- ---- the same by what the record says
 
 module _ (job : List ℕ) (i : ℕ) where
-  pub row-stray : Says job i Stray → recordStep job i ≡ unless nothing (refused 13 i 0) (answer nothing)
+  pub row-unknown : Says job i Unknown → recordStep job i ≡ judged nothing (refused 13 i 0)
   unfolding recordStep recordRows
-  row-stray (stray e) = rw e
+  row-unknown (unknown u) = rw u
+
+  pub row-unused : {k : ℕ} → Says job i (Unused k) → recordStep job i ≡ judged nothing (refused 23 i k)
+  unfolding recordStep recordRows
+  row-unused (unused u e) = rw (u, e)
 
   pub row-board : {w h : ℕ} → Says job i (Board w h) → recordStep job i ≡ boardStep i w h
   row-board (board e t) = board-at job i e t
@@ -93,13 +98,14 @@ module _ (job : List ℕ) where
   rows-numbered : (i : ℕ) → Numbered (recordRows job i)
   unfolding recordRows
   rows-numbered i =
-      numbered (isStray job i) 13 i _ refl
+      numbered (isUnknown job i) 13 i _ refl
+      (then-within (ltb 0) (unusedRow job (usedBy (byte job i 0)) i) _ (unused-within job (usedBy (byte job i 0)) i (ltb 0) refl)
       (numbered (isMisplaced job i) 12 i _ refl
       (numbered (isLate job i) 18 i _ refl
       (numbered (isOversized job i) 14 i _ refl
       (numbered (isBadKeepout job i) 15 i _ refl
       (numbered (isUnordered job i) 17 i _ refl
-      (row-within (ltb 0) (isEndOff job i) 16 i refl))))))
+      (row-within (ltb 0) (isEndOff job i) 16 i refl)))))))
 
   pub job-numbered : Numbered (jobRows job)
   unfolding jobRows

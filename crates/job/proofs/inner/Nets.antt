@@ -14,7 +14,7 @@ use Rattle.laws.proofs.Below.{indexed-here, many-above, indexed-below, indexed-
 use Rattle.board.specs.Handed.{answer}
 use Rattle.records.specs.Records.{records, byte}
 use Rattle.faults.specs.declared.kinds.Record.{Record}
-use Rattle.faults.specs.declared.kinds.Record.the-variants.{Net, Stray}
+use Rattle.faults.specs.declared.kinds.Record.the-variants.{Net, Unknown}
 use Rattle.faults.proofs.kinds.Record.{the-type}
 use Rattle.job.specs.declared.NetAnswer.the-variants as net-read
 use Rattle.faults.specs.Job.{isNet, netAt, nets, netRecord}
@@ -22,7 +22,7 @@ use Rattle.job.specs.Answers.{handedNet, netRow}
 use Rattle.faults.specs.Inner.{Accepted}
 use Rattle.faults.specs.Kinds.{recordAt}
 use Rattle.job.specs.Inner.{netSaid}
-use Rattle.faults.proofs.Accepted.{not-stray}
+use Rattle.faults.proofs.Accepted.{is-tidy}
 
 -- ---- found among the records
 
@@ -33,7 +33,7 @@ module _ (job : List ℕ) where
   found-here i l n e =
       rw (← e, lt-leb (nets job) (howMany i (isNet job)) (many-above (isNet job) (records job) i l n), indexed-here (isNet job) (records job) i l n)
 
-  pub found-none : {index : ℕ} → nets job ≤ index → Stray ≡ netSaid job index
+  pub found-none : {index : ℕ} → nets job ≤ index → Unknown ≡ netSaid job index
   unfolding netSaid
   found-none {index} l = rw (le-leb (nets job) index l)
 
@@ -51,7 +51,7 @@ module _ {job : List ℕ} (a : Accepted job) (index : ℕ) where
     unfolding netSaid recordAt
     said-net =
         let i : ℕ = netRecord job index in
-        rw (lt-leb (nets job) index l, not-stray a i net-record-below, eqb-true (byte job i 0) 3 net-record-is)
+        rw (lt-leb (nets job) index l, is-tidy a i net-record-below, eqb-true (byte job i 0) 3 net-record-is)
 
     -- a net read gives that net
     pub net-there : netRow job index ≡ answer (netAt job (netRecord job index))
@@ -72,10 +72,10 @@ module _ {job : List ℕ} (a : Accepted job) (index : ℕ) where
           → handedNet (net-read.Net n sx sy gx gy) ≡ answer (netAt job i)
       handed i f = cc f
 
-  pub net-missing : (r : Record) → OneOf (0 ∷ 1 ∷ 3 ∷ []) (tagOf the-type r) → r ≡ netSaid job index → handedNet net-read.NoNet ≡ netRow job index
+  pub net-missing : (r : Record) → OneOf (0 ∷ 1 ∷ 3 ∷ 4 ∷ []) (tagOf the-type r) → r ≡ netSaid job index → handedNet net-read.NoNet ≡ netRow job index
   unfolding netRow
   net-missing r k e =
       ⊎-elim
-      (λ (l : index < nets job). absurd (miss (0 ∷ 1 ∷ 3 ∷ []) 2 tt (rw (e ∙ said-net l) at k)))
+      (λ (l : index < nets job). absurd (miss (0 ∷ 1 ∷ 3 ∷ 4 ∷ []) 2 tt (rw (e ∙ said-net l) at k)))
       (λ (g : nets job ≤ index). rw (a .passed, le-leb (nets job) index g))
       (order index (nets job))

@@ -57,6 +57,9 @@ number-requires c κs = search needs
 place-requires : tie.Need-place-requires
 place-requires c κs = search needs
 
+second-requires : tie.Need-second-requires
+second-requires c κs = search needs
+
 write-refusal-requires : tie.Need-write-refusal-requires
 write-refusal-requires c κs = search needs
 
@@ -89,6 +92,7 @@ serve-spec =
     enum-known-why
     number-requires
     place-requires
+    second-requires
     write-refusal-requires
     enum-told
     write-refusal-requires-2
