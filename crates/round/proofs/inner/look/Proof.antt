@@ -9,7 +9,7 @@ use borrow.Author.Tests.{not-true, not-false}
 use denote.Ref.{now}
 use lib.ListN.{length, length-set}
 use Rattle.board.specs.Limits.{mostVertices}
-use Rattle.sight.specs.Sight.{sees}
+use Rattle.legs.specs.Sight.{sees}
 use Rattle.table.proofs.Table.{known-leg}
 use Rattle.reach.specs.Turns.{at}
 use Rattle.theta.specs.Search.{Problem, State}
