@@ -7,9 +7,9 @@ use Rattle.board.specs.Handed.{Verdict, refused, Handed, judged, refusalRow, nu
 use Rattle.board.specs.Board.{Board}
 use Rattle.problem.specs.Problem.{problem}
 use Rattle.router.specs.Answers.{Route, Slices, slicesAfter, Routed}
-use Rattle.faults.specs.declared.JobRefusal.{JobRefusal}
-use Rattle.faults.specs.Refusals as job
-use Rattle.faults.proofs.Refusing.{listed}
+use Rattle.refusals.specs.declared.JobRefusal.{JobRefusal}
+use Rattle.refusals.specs.Refusals as job
+use Rattle.refusals.proofs.Refusing.{listed}
 use Rattle.capi.specs.declared.Found.{Found}
 use Rattle.capi.specs.Told.{toldRoute, RoutedForC}
 

@@ -10,7 +10,7 @@ use Rattle.length.specs.Answers as length-calls
 use Rattle.sight.specs.Answers as sight-call
 use Rattle.problem.specs.Problem.{problem}
 use Rattle.router.specs.Answers.{Route, Slices, routeRow, slicesAfter}
-use Rattle.faults.specs.Job as job-records
+use Rattle.kinds.specs.Job as job-records
 use Rattle.job.specs.Answers as job-calls
 use Rattle.capi.specs.declared.Seen.{Seen}
 use Rattle.capi.specs.declared.Long.{Long}

@@ -6,13 +6,14 @@ use lib.Dec.{leb, ltb, eqb}
 use Rattle.laws.specs.Below.{howMany}
 use Rattle.board.specs.Handed.{row, andThen, Handed, answer, unless, judged, sideFits}
 use Rattle.records.specs.Records.{records}
-use Rattle.faults.specs.declared.JobRefusal.{JobRefusal}
-use Rattle.faults.specs.declared.JobRefusal.the-variants.{Long}
+use Rattle.refusals.specs.declared.JobRefusal.{JobRefusal}
+use Rattle.refusals.specs.declared.JobRefusal.the-variants.{Long}
 use Rattle.faults.specs.declared.steps.Progress.{Progress}
 use Rattle.faults.specs.declared.steps.Step.{Step}
 use Rattle.faults.specs.declared.steps.Step.the-variants.{Next, Refused}
-use Rattle.faults.specs.Job.{isNet, width, height}
-use Rattle.faults.specs.Refusals.{netBefore, recordRows, jobRows, refusalRow}
+use Rattle.kinds.specs.Job.{isNet, width, height}
+use Rattle.refusals.specs.Refusals.{refusalRow}
+use Rattle.faults.specs.Refusals.{netBefore, recordRows, jobRows}
 
 -- what the records before record i say: the sides, the last net's number, how many nets
 unfoldable pub progress : List ℕ → ℕ → Progress

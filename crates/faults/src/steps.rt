@@ -6,15 +6,15 @@ ghost use lib.Dec.{leb, ltb};
 ghost use lib.ListN.{length};
 ghost use Rattle.board.specs.Handed.{sideFits};
 ghost use Rattle.records.specs.Records.{records};
-ghost use Rattle.faults.specs.Job.{longestJob};
+ghost use Rattle.kinds.specs.Job.{longestJob};
 ghost use Rattle.faults.specs.Steps.{progress, handedStep, whyOf, boardStep, keepoutStep, netStep, recordStep, jobStep};
-use crate::JobRefusal;
 use crate::LONGEST;
-use crate::kinds::Record;
-use crate::kinds::record_at;
 use board::inner::is_vertex;
 use board::inner::side_fits;
+use kinds::Record;
+use kinds::inner::record_at;
 use records::RECORD;
+use refusals::JobRefusal;
 
 // What the records so far say: the board's sides, the last net's number and how many nets.
 pub struct Progress {

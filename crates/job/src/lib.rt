@@ -6,11 +6,11 @@ ghost use Rattle.faults.specs.Steps.{progress};
 ghost use Rattle.job.specs.Answers.{handedBoard, handedNet, BoardRead, netRow};
 use cells::fill;
 use cells::paint_keepouts;
-use faults::JobRefusal;
 use faults::steps::Progress;
 use faults::steps::Step;
 use faults::steps::check_job;
 use inner::net_at;
+use refusals::JobRefusal;
 
 mod cells;
 pub mod inner;

@@ -17,18 +17,19 @@ use Rattle.board.proofs.Verdicts.{row-within, then-within}
 use Rattle.records.specs.Records.{recordBytes, records, byte, lengthRow, inOrder, unusedRow}
 use Rattle.records.proofs.Stray.{unused-within}
 use Rattle.records.proofs.InOrder.{first-refused, order-within}
-use Rattle.faults.specs.declared.JobRefusal.{JobRefusal}
-use Rattle.faults.specs.declared.kinds.Record.the-variants.{Board, Keepout, Net, Unknown, Unused}
+use Rattle.refusals.specs.declared.JobRefusal.{JobRefusal}
+use Rattle.kinds.specs.declared.Record.the-variants.{Board, Keepout, Net, Unknown, Unused}
 use Rattle.faults.specs.declared.steps.Progress.{Progress}
 use Rattle.faults.specs.declared.steps.Step.{Step}
 use Rattle.faults.specs.declared.steps.Step.the-variants.{Next, Refused}
 use Rattle.faults.proofs.steps.Step.{the-type}
-use Rattle.faults.specs.Job.{longestJob, isBoard, isKeepout, isNet, usedBy, coordinate, width, height, left, top, right, bottom, netAt}
-use Rattle.faults.specs.Refusals.{isUnknown, isMisplaced, isLate, isOversized, isBadKeepout, netBefore, isUnordered, isEndOff, recordRows, jobRows, refusalRow}
+use Rattle.kinds.specs.Job.{longestJob, isBoard, isKeepout, isNet, isUnknown, usedBy, coordinate, width, height, left, top, right, bottom, netAt}
+use Rattle.refusals.specs.Refusals.{refusalRow}
+use Rattle.faults.specs.Refusals.{isMisplaced, isLate, isOversized, isBadKeepout, netBefore, isUnordered, isEndOff, recordRows, jobRows}
 use Rattle.faults.specs.Inner.{Accepted}
 use Rattle.faults.specs.Steps.{progress, nothing, handedStep, whyOf, recordStep, jobStep, boardStep, keepoutStep, netStep}
-use Rattle.faults.proofs.kinds.Says.{isUntidy, Says, unknown, unused, board, keepout, net}
-use Rattle.faults.proofs.Refusing.{Numbered, answered, refuses, listed}
+use Rattle.kinds.proofs.Says.{isUntidy, Says, unknown, unused, board, keepout, net}
+use Rattle.refusals.proofs.Refusing.{Numbered, answered, refuses, listed}
 
 -- rows that pass after others change nothing
 nothing-more : (v : Verdict) → andThen v passes ≡ v

@@ -18,7 +18,7 @@ use Rattle.board.proofs.Rows.{side-least, cells-few}
 use Rattle.records.specs.Records.{records}
 use Rattle.job.specs.declared.BoardAnswer.the-variants.{Board, Short}
 use Rattle.faults.specs.declared.steps.Progress.{Progress}
-use Rattle.faults.specs.Job.{isKeepout, width, height, left, top, right, bottom, covers, inKeepout, cellsUpTo, boardCells, nets}
+use Rattle.kinds.specs.Job.{isKeepout, width, height, left, top, right, bottom, covers, inKeepout, cellsUpTo, boardCells, nets}
 use Rattle.job.specs.Answers.{handedBoard, BoardRead}
 use Rattle.faults.specs.Inner.{Accepted}
 use Rattle.faults.specs.Steps.{progress}

@@ -1,6 +1,6 @@
 -- `job::read_net` checks the whole job and takes out the net.
 use mathlib.Core.Path.{sym, ap, _∙_}
-use Rattle.faults.specs.Refusals.{refusalRow}
+use Rattle.refusals.specs.Refusals.{refusalRow}
 use Rattle.faults.specs.Steps.{handedStep}
 use Rattle.faults.proofs.steps.Judging.{whole-next, whole-stopped}
 use Rattle.job.proofs.Reading.{net-refused}

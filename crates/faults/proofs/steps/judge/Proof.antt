@@ -1,7 +1,7 @@
 -- `faults::steps::judge` judges a record by its type.
 use mathlib.Core.Path.{sym, _∙_}
 use native.Mathlib.Omega.{arith}
-use Rattle.faults.proofs.kinds.Says.{said}
+use Rattle.kinds.proofs.Says.{said}
 use Rattle.faults.proofs.steps.Judging.{row-unknown, row-unused, row-board, row-keepout, row-net, nets-few}
 use borrow.Author.Needs.{needs}
 use Rattle.faults.proofs.steps.judge.Statement.{statement}

@@ -8,11 +8,10 @@ use lib.Dec.{ltb, eqb}
 use borrow.Author.Tests.{eqb-true, ne-eqb, not-false, lt-ltb, le-ltb}
 use Rattle.laws.proofs.Tests.{bool-cases}
 use Rattle.records.specs.Records.{recordBytes, byte, strayByte}
-use Rattle.faults.specs.declared.kinds.Record.{Record}
-use Rattle.faults.specs.declared.kinds.Record.the-variants.{Board, Keepout, Net, Unknown, Unused}
-use Rattle.faults.specs.Job.{isBoard, isKeepout, isNet, usedBy, coordinate, left, top, right, bottom, netAt}
-use Rattle.faults.specs.Refusals.{isUnknown}
-use Rattle.faults.specs.Kinds.{strayIn, recordAt}
+use Rattle.kinds.specs.declared.Record.{Record}
+use Rattle.kinds.specs.declared.Record.the-variants.{Board, Keepout, Net, Unknown, Unused}
+use Rattle.kinds.specs.Job.{isBoard, isKeepout, isNet, isUnknown, usedBy, coordinate, left, top, right, bottom, netAt}
+use Rattle.kinds.specs.Inner.{strayIn, recordAt}
 
 -- what 23 is judged by
 abbrev pub isUntidy : List ℕ → ℕ → Bool

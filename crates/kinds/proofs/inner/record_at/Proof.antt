@@ -1,12 +1,12 @@
--- `faults::kinds::record_at` says what the definition says.
+-- `kinds::inner::record_at` says what the definition says.
 use mathlib.Core.Path.{_≡_}
 use mathlib.Core.Bool.{true}
 use denote.Ref.{now}
 use borrow.Author.Needs.{needs}
 use borrow.Author.Tests.{not-true, not-false}
-use Rattle.faults.proofs.kinds.Says.{isKnown, Neat, says-unknown, says-unused, is-neat, says-board, says-keepout, says-net}
-use Rattle.faults.proofs.kinds.record_at.Statement.{statement}
-use Rattle.faults.proofs.kinds.record_at.Tie as tie
+use Rattle.kinds.proofs.Says.{isKnown, Neat, says-unknown, says-unused, is-neat, says-board, says-keepout, says-net}
+use Rattle.kinds.proofs.inner.record_at.Statement.{statement}
+use Rattle.kinds.proofs.inner.record_at.Tie as tie
 
 byte-of-requires : tie.Need-byte-of-requires
 byte-of-requires c κs = search needs

@@ -1,6 +1,6 @@
 -- A job: records of 8 bytes, as document 01 has them, and what they mean.
 use Prim.Native.Nat.{ℕ, zero, suc, _*_, _/_, _%_}
-use mathlib.Core.Bool.{Bool, _&&_, cond}
+use mathlib.Core.Bool.{Bool, not, _&&_, _||_, cond}
 use mathlib.Core.List.{List, [], _∷_, _++_}
 use lib.Dec.{leb, ltb, eqb}
 use Rattle.laws.specs.Below.{some, howMany, firstWhere}
@@ -21,6 +21,10 @@ isKeepout job i = eqb (byte job i 0) 2
 
 abbrev pub isNet : List ℕ → ℕ → Bool
 isNet job i = eqb (byte job i 0) 3
+
+-- a type that is none of these
+abbrev pub isUnknown : List ℕ → ℕ → Bool
+isUnknown job i = not (isBoard job i || (isKeepout job i || isNet job i))
 
 -- the bytes that a record of a type uses
 unfoldable pub usedBy : (type : ℕ) → List ℕ

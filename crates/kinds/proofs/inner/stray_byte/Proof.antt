@@ -1,13 +1,13 @@
--- `faults::kinds::stray_byte` finds the lowest unused byte that is not 0. The loop's invariant: it is known, or none before is.
+-- `kinds::inner::stray_byte` finds the lowest unused byte that is not 0. The loop's invariant: it is known, or none before is.
 use Prim.Native.Nat.{_+_, _-_, _≤_}
 use mathlib.Core.Path.{_≡_}
 use mathlib.Core.Logic.{⊎-elim}
 use native.Mathlib.Omega.{arith}
 use Rattle.records.specs.Records.{recordBytes}
 use Rattle.records.proofs.Stray.{Lowest, lowest-begins, lowest-found, lowest-kept, lowest-ends}
-use Rattle.faults.specs.Job.{usedBy}
-use Rattle.faults.proofs.kinds.stray_byte.Statement.{statement}
-use Rattle.faults.proofs.kinds.stray_byte.Tie as tie
+use Rattle.kinds.specs.Job.{usedBy}
+use Rattle.kinds.proofs.inner.stray_byte.Statement.{statement}
+use Rattle.kinds.proofs.inner.stray_byte.Tie as tie
 
 abbrev Inv-loop : tie.InvT-loop
 Inv-loop job i kind lowest₀ k₀ lowest k = (k ≤ recordBytes) × Lowest job (usedBy kind) i k lowest

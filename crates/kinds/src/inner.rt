@@ -1,41 +1,15 @@
-// One record by itself: its type, and what it says.
+// What one record says, for the crates above, which say that there is such a record.
 ghost use mathlib.Core.Path.{_≡_};
 ghost use Prim.Native.Nat.{_<_};
 ghost use Rattle.records.specs.Records.{recordBytes, records, byte, isIn, isStrayByte, strayByte};
-ghost use Rattle.faults.specs.Job.{usedBy, coordinate};
-ghost use Rattle.faults.specs.Kinds.{recordAt};
+ghost use Rattle.kinds.specs.Job.{usedBy, coordinate};
+ghost use Rattle.kinds.specs.Inner.{recordAt};
+use crate::BOARD;
+use crate::KEEPOUT;
+use crate::NET;
+use crate::Record;
 use records::RECORD;
 use records::inner::byte_of;
-
-// The types, as byte 0 of a record gives them.
-const BOARD: usize = 1;
-
-const KEEPOUT: usize = 2;
-
-pub const NET: usize = 3;
-
-// What a record says; a keepout goes from (left, top) to just before (right, bottom). Unused has the byte.
-pub enum Record {
-    Board {
-        width: usize,
-        height: usize,
-    },
-    Keepout {
-        left: usize,
-        top: usize,
-        right: usize,
-        bottom: usize,
-    },
-    Net {
-        number: usize,
-        sx: usize,
-        sy: usize,
-        gx: usize,
-        gy: usize,
-    },
-    Unknown,
-    Unused(usize),
-}
 
 // The coordinate that byte k of record i gives.
 fn coordinate_of(job: &[u8], i: usize, k: usize) -> usize

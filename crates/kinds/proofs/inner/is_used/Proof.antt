@@ -1,10 +1,10 @@
--- `faults::kinds::is_used` reads the definition's table.
+-- `kinds::inner::is_used` reads the definition's table.
 use mathlib.Core.Path.{refl}
 use borrow.Author.Tests.{eq-eqb, ne-eqb}
 use Rattle.laws.proofs.Tests.{or-false}
-use Rattle.faults.specs.Job.{usedBy}
-use Rattle.faults.proofs.kinds.is_used.Statement.{statement}
-use Rattle.faults.proofs.kinds.is_used.Tie as tie
+use Rattle.kinds.specs.Job.{usedBy}
+use Rattle.kinds.proofs.inner.is_used.Statement.{statement}
+use Rattle.kinds.proofs.inner.is_used.Tie as tie
 
 returns : tie.Need-returns
 unfolding usedBy

@@ -1,8 +1,8 @@
--- `faults::kinds::coordinate_of` is the definition's coordinate.
+-- `kinds::inner::coordinate_of` is the definition's coordinate.
 use borrow.Author.Needs.{needs}
-use Rattle.faults.specs.Job.{coordinate}
-use Rattle.faults.proofs.kinds.coordinate_of.Statement.{statement}
-use Rattle.faults.proofs.kinds.coordinate_of.Tie as tie
+use Rattle.kinds.specs.Job.{coordinate}
+use Rattle.kinds.proofs.inner.coordinate_of.Statement.{statement}
+use Rattle.kinds.proofs.inner.coordinate_of.Tie as tie
 
 byte-of-requires : tie.Need-byte-of-requires
 byte-of-requires c κs = search needs

@@ -1,13 +1,12 @@
--- What src/kinds.rt says of one record. No public contract cites it, so nobody need believe this.
+-- What src/inner.rt says of one record. No public contract cites it, so nobody need believe this.
 use Prim.Native.Nat.{ℕ}
 use mathlib.Core.Bool.{cond}
 use mathlib.Core.List.{List}
 use lib.Dec.{ltb}
 use Rattle.records.specs.Records.{recordBytes, byte, strayByte}
-use Rattle.faults.specs.declared.kinds.Record.{Record}
-use Rattle.faults.specs.declared.kinds.Record.the-variants.{Board, Keepout, Net, Unknown, Unused}
-use Rattle.faults.specs.Job.{isBoard, isKeepout, usedBy, coordinate, left, top, right, bottom, netAt}
-use Rattle.faults.specs.Refusals.{isUnknown}
+use Rattle.kinds.specs.declared.Record.{Record}
+use Rattle.kinds.specs.declared.Record.the-variants.{Board, Keepout, Net, Unknown, Unused}
+use Rattle.kinds.specs.Job.{isBoard, isKeepout, isUnknown, usedBy, coordinate, left, top, right, bottom, netAt}
 
 -- the lowest stray byte of record i, by its type
 abbrev pub strayIn : List ℕ → ℕ → ℕ

@@ -1,7 +1,7 @@
--- `faults::kinds::is_stray`: a byte that is not used, and not 0.
+-- `kinds::inner::is_stray`: a byte that is not used, and not 0.
 use borrow.Author.Needs.{needs}
-use Rattle.faults.proofs.kinds.is_stray.Statement.{statement}
-use Rattle.faults.proofs.kinds.is_stray.Tie as tie
+use Rattle.kinds.proofs.inner.is_stray.Statement.{statement}
+use Rattle.kinds.proofs.inner.is_stray.Tie as tie
 
 is-used-requires : tie.Need-is-used-requires
 is-used-requires c κs = search needs
