@@ -1,3 +1,2 @@
 pub mod Refusals
 pub mod Inner
-pub mod Steps

@@ -23,7 +23,7 @@ use Rattle.refusals.proofs.Refusing.{Numbered, answered}
 use Rattle.faults.proofs.Accepted.{width-fits, height-fits, start-on, goal-on}
 use Rattle.job.proofs.cells.Grid.{cells-length, cells-bits}
 use Rattle.job.proofs.inner.Nets.{net-record-below, net-record-is}
-use Rattle.faults.proofs.steps.Judging.{job-numbered}
+use Rattle.faults.proofs.Judging.{job-numbered}
 
 -- ---- an accepted job
 

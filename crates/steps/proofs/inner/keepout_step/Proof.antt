@@ -1,9 +1,9 @@
--- `faults::steps::keepout_step` judges a keepout record by 12, 18, then 15.
+-- `steps::inner::keepout_step` judges a keepout record by 12, 18, then 15.
 use borrow.Author.Needs.{needs}
 use borrow.Author.Tests.{not-true, not-false, eq-eqb, ne-eqb, lt-ltb, le-ltb}
-use Rattle.faults.specs.Steps.{keepoutStep}
-use Rattle.faults.proofs.steps.keepout_step.Statement.{statement}
-use Rattle.faults.proofs.steps.keepout_step.Tie as tie
+use Rattle.steps.specs.Steps.{keepoutStep}
+use Rattle.steps.proofs.inner.keepout_step.Statement.{statement}
+use Rattle.steps.proofs.inner.keepout_step.Tie as tie
 
 returns : tie.Need-returns
 unfolding keepoutStep

@@ -1,10 +1,10 @@
--- `faults::steps::net_step` judges a net record by 12, 17, then 16.
+-- `steps::inner::net_step` judges a net record by 12, 17, then 16.
 use mathlib.Core.Bool.{_&&_}
 use borrow.Author.Needs.{needs}
 use borrow.Author.Tests.{not-true, not-false, eq-eqb, ne-eqb}
-use Rattle.faults.specs.Steps.{netStep}
-use Rattle.faults.proofs.steps.net_step.Statement.{statement}
-use Rattle.faults.proofs.steps.net_step.Tie as tie
+use Rattle.steps.specs.Steps.{netStep}
+use Rattle.steps.proofs.inner.net_step.Statement.{statement}
+use Rattle.steps.proofs.inner.net_step.Tie as tie
 
 is-vertex-requires : tie.Need-is-vertex-requires
 is-vertex-requires c κs = search needs

@@ -1,7 +1,7 @@
--- `faults::steps::sides_fit`: both sides fit.
+-- `steps::inner::sides_fit`: both sides fit.
 use borrow.Author.Needs.{needs}
-use Rattle.faults.proofs.steps.sides_fit.Statement.{statement}
-use Rattle.faults.proofs.steps.sides_fit.Tie as tie
+use Rattle.steps.proofs.inner.sides_fit.Statement.{statement}
+use Rattle.steps.proofs.inner.sides_fit.Tie as tie
 
 side-fits-requires : tie.Need-side-fits-requires
 side-fits-requires c κs = search needs

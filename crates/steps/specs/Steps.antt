@@ -1,28 +1,14 @@
--- What the steps of src/steps.rt say to each other. No public contract cites it, so nobody need believe this.
-use Prim.Native.Nat.{ℕ, suc, _+_}
-use mathlib.Core.Bool.{not, _&&_, cond}
-use mathlib.Core.List.{List}
+-- What the steps of a job's check say to each other. No public contract cites it, so nobody need believe this.
+use Prim.Native.Nat.{ℕ, _+_}
+use mathlib.Core.Bool.{not, _&&_}
 use lib.Dec.{leb, ltb, eqb}
-use Rattle.laws.specs.Below.{howMany}
 use Rattle.board.specs.Handed.{row, andThen, Handed, answer, unless, judged, sideFits}
-use Rattle.records.specs.Records.{records}
 use Rattle.refusals.specs.declared.JobRefusal.{JobRefusal}
 use Rattle.refusals.specs.declared.JobRefusal.the-variants.{Long}
-use Rattle.faults.specs.declared.steps.Progress.{Progress}
-use Rattle.faults.specs.declared.steps.Step.{Step}
-use Rattle.faults.specs.declared.steps.Step.the-variants.{Next, Refused}
-use Rattle.kinds.specs.Job.{isNet, width, height}
 use Rattle.refusals.specs.Refusals.{refusalRow}
-use Rattle.faults.specs.Refusals.{netBefore, recordRows, jobRows}
-
--- what the records before record i say: the sides, the last net's number, how many nets
-unfoldable pub progress : List ℕ → ℕ → Progress
-progress job i = record {
-  width = cond (eqb i 0) 0 (width job);
-  height = cond (eqb i 0) 0 (height job);
-  last = netBefore job i;
-  nets = howMany i (isNet job);
-}
+use Rattle.steps.specs.declared.Progress.{Progress}
+use Rattle.steps.specs.declared.Step.{Step}
+use Rattle.steps.specs.declared.Step.the-variants.{Next, Refused}
 
 -- a step hands back a refusal, or what was read up to there
 abbrev pub nothing : Progress
@@ -37,14 +23,7 @@ abbrev pub whyOf : Step → JobRefusal
 whyOf (Next p) = Long
 whyOf (Refused why) = why
 
--- record i is judged, and the whole job
-unfoldable pub recordStep : List ℕ → ℕ → Handed Progress
-recordStep job i = unless nothing (recordRows job i) (answer (progress job (suc i)))
-
-unfoldable pub jobStep : List ℕ → Handed Progress
-jobStep job = unless nothing (jobRows job) (answer (progress job (records job)))
-
--- the same for each type, over the record's numbers
+-- a record of each type is judged, by what was read before it and by its numbers
 unfoldable pub boardStep : (i w h : ℕ) → Handed Progress
 boardStep i w h =
     unless nothing (andThen (row (not (eqb i 0)) 12 i) (row (not (sideFits w && sideFits h)) 14 i))

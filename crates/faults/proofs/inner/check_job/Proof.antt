@@ -1,4 +1,4 @@
--- `faults::steps::check_job` judges the whole job. The loop's invariant: the records before pass, and what was read is what they say.
+-- `faults::inner::check_job` judges the whole job. The loop's invariant: the records before pass, and what was read is what they say.
 use mathlib.Core.Path.{_≡_, refl, sym, ap, _∙_}
 use Prim.Native.Nat.{_-_, _≤_}
 use native.Mathlib.Omega.{arith}
@@ -9,10 +9,11 @@ use Rattle.board.specs.Handed.{passes, answer}
 use Rattle.records.specs.Records.{records, inOrder}
 use Rattle.records.proofs.InOrder.{none-yet, one-more}
 use Rattle.faults.specs.Refusals.{netBefore, recordRows, jobRows}
-use Rattle.faults.specs.Steps.{progress, handedStep, jobStep}
-use Rattle.faults.proofs.steps.Judging.{goes-on, stops, ends}
-use Rattle.faults.proofs.steps.check_job.Statement.{statement}
-use Rattle.faults.proofs.steps.check_job.Tie as tie
+use Rattle.faults.specs.Inner.{progress, jobStep}
+use Rattle.steps.specs.Steps.{handedStep}
+use Rattle.faults.proofs.Judging.{goes-on, stops, ends}
+use Rattle.faults.proofs.inner.check_job.Statement.{statement}
+use Rattle.faults.proofs.inner.check_job.Tie as tie
 
 abbrev Inv-loop : tie.InvT-loop
 Inv-loop job count past₀ i₀ past i = (i ≤ count) × (past ≡ progress job i) × (inOrder i (recordRows job) ≡ passes)

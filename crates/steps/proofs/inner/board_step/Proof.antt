@@ -1,10 +1,10 @@
--- `faults::steps::board_step` judges a board record by 12, then 14.
+-- `steps::inner::board_step` judges a board record by 12, then 14.
 use Rattle.laws.proofs.Tests.{answered-no, answered-yes}
 use borrow.Author.Needs.{needs}
 use borrow.Author.Tests.{eq-eqb, ne-eqb}
-use Rattle.faults.specs.Steps.{boardStep}
-use Rattle.faults.proofs.steps.board_step.Statement.{statement}
-use Rattle.faults.proofs.steps.board_step.Tie as tie
+use Rattle.steps.specs.Steps.{boardStep}
+use Rattle.steps.proofs.inner.board_step.Statement.{statement}
+use Rattle.steps.proofs.inner.board_step.Tie as tie
 
 returns : tie.Need-returns
 unfolding boardStep

@@ -1,11 +1,11 @@
--- `faults::steps::judge` judges a record by its type.
+-- `faults::inner::judge` judges a record by its type.
 use mathlib.Core.Path.{sym, _∙_}
 use native.Mathlib.Omega.{arith}
 use Rattle.kinds.proofs.Says.{said}
-use Rattle.faults.proofs.steps.Judging.{row-unknown, row-unused, row-board, row-keepout, row-net, nets-few}
+use Rattle.faults.proofs.Judging.{row-unknown, row-unused, row-board, row-keepout, row-net, nets-few}
 use borrow.Author.Needs.{needs}
-use Rattle.faults.proofs.steps.judge.Statement.{statement}
-use Rattle.faults.proofs.steps.judge.Tie as tie
+use Rattle.faults.proofs.inner.judge.Statement.{statement}
+use Rattle.faults.proofs.inner.judge.Tie as tie
 
 record-at-requires : tie.Need-record-at-requires
 record-at-requires c κs = search needs

@@ -19,15 +19,15 @@ use Rattle.records.proofs.Stray.{unused-within}
 use Rattle.records.proofs.InOrder.{first-refused, order-within}
 use Rattle.refusals.specs.declared.JobRefusal.{JobRefusal}
 use Rattle.kinds.specs.declared.Record.the-variants.{Board, Keepout, Net, Unknown, Unused}
-use Rattle.faults.specs.declared.steps.Progress.{Progress}
-use Rattle.faults.specs.declared.steps.Step.{Step}
-use Rattle.faults.specs.declared.steps.Step.the-variants.{Next, Refused}
-use Rattle.faults.proofs.steps.Step.{the-type}
+use Rattle.steps.specs.declared.Progress.{Progress}
+use Rattle.steps.specs.declared.Step.{Step}
+use Rattle.steps.specs.declared.Step.the-variants.{Next, Refused}
+use Rattle.steps.proofs.Step.{the-type}
 use Rattle.kinds.specs.Job.{longestJob, isBoard, isKeepout, isNet, isUnknown, usedBy, coordinate, width, height, left, top, right, bottom, netAt}
 use Rattle.refusals.specs.Refusals.{refusalRow}
 use Rattle.faults.specs.Refusals.{isMisplaced, isLate, isOversized, isBadKeepout, netBefore, isUnordered, isEndOff, recordRows, jobRows}
-use Rattle.faults.specs.Inner.{Accepted}
-use Rattle.faults.specs.Steps.{progress, nothing, handedStep, whyOf, recordStep, jobStep, boardStep, keepoutStep, netStep}
+use Rattle.faults.specs.Inner.{Accepted, progress, recordStep, jobStep}
+use Rattle.steps.specs.Steps.{nothing, handedStep, whyOf, boardStep, keepoutStep, netStep}
 use Rattle.kinds.proofs.Says.{isUntidy, Says, unknown, unused, board, keepout, net}
 use Rattle.refusals.proofs.Refusing.{Numbered, answered, refuses, listed}
 
