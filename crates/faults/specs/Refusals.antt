@@ -1,21 +1,15 @@
 -- Why a job is refused: document 01's rows 10 to 18, and document 02's 23, in the order in which they are checked.
 use Prim.Native.Nat.{ℕ, zero, suc}
-use mathlib.Core.Bool.{Bool, not, _&&_, _||_, cond}
+use mathlib.Core.Bool.{Bool, not, _&&_, cond}
 use mathlib.Core.List.{List}
 use lib.Dec.{leb, ltb, eqb}
 use lib.ListN.{length}
 use Rattle.laws.specs.Below.{some}
-use Rattle.board.specs.Handed.{Verdict, refused, row, andThen, sideFits}
+use Rattle.board.specs.Handed.{Verdict, row, andThen, sideFits}
 use Rattle.records.specs.Records.{records, byte, lengthRow, inOrder, unusedRow}
-use Rattle.faults.specs.declared.JobRefusal.{JobRefusal}
-use Rattle.faults.specs.declared.JobRefusal.the-variants.{Long, Uneven, Order, Unknown, Side, Keepout, End, Number, Late, Unused}
-use Rattle.faults.specs.Job.{longestJob, isBoard, isKeepout, isNet, usedBy, width, height, left, top, right, bottom, netAt}
+use Rattle.kinds.specs.Job.{longestJob, isBoard, isKeepout, isNet, isUnknown, usedBy, width, height, left, top, right, bottom, netAt}
 
--- ---- what can be wrong with record i
-
--- 13: unknown type
-abbrev pub isUnknown : List ℕ → ℕ → Bool
-isUnknown job i = not (isBoard job i || (isKeepout job i || isNet job i))
+-- ---- what can be wrong with record i, besides an unknown type (13) and an unused byte (23)
 
 -- 12: record 0 is not a board, or a later one is
 abbrev pub isMisplaced : List ℕ → ℕ → Bool
@@ -72,17 +66,3 @@ jobRows job =
     (andThen (lengthRow job)
     (andThen (row (eqb (records job) 0) 12 0)
     (inOrder (records job) (recordRows job))))
-
--- ---- the code's refusals
-
-abbrev pub refusalRow : JobRefusal → Verdict
-refusalRow Long = refused 10 0 0
-refusalRow Uneven = refused 11 0 0
-refusalRow (Order i) = refused 12 i 0
-refusalRow (Unknown i) = refused 13 i 0
-refusalRow (Side i) = refused 14 i 0
-refusalRow (Keepout i) = refused 15 i 0
-refusalRow (End i) = refused 16 i 0
-refusalRow (Number i) = refused 17 i 0
-refusalRow (Late i) = refused 18 i 0
-refusalRow (Unused i k) = refused 23 i k

@@ -4,9 +4,9 @@ use Prim.Native.Nat.{ℕ}
 use Rattle.board.specs.declared.Refusal.{Refusal}
 use Rattle.board.specs.declared.Refusal.the-variants as board
 use Rattle.board.specs.Handed.{Verdict, refused, Handed, judged, refusalRow, numberIn, placeIn, secondIn}
-use Rattle.faults.specs.declared.JobRefusal.{JobRefusal}
-use Rattle.faults.specs.Refusals as job
-use Rattle.faults.proofs.Refusing.{listed}
+use Rattle.refusals.specs.declared.JobRefusal.{JobRefusal}
+use Rattle.refusals.specs.Refusals as job
+use Rattle.refusals.proofs.Refusing.{listed}
 
 -- an answer that is known to be one variant is told as that variant is
 pub told-as : {Answer Values Told : Type 0} (handed : Answer → Handed Values) (told : Handed Values → Told) {a b : Answer} {r : Told} → a ≡ b

@@ -4,7 +4,7 @@ use Rattle.length.specs.Floats.{inCells}
 use Rattle.length.specs.Answers as length-calls
 use Rattle.sight.specs.Answers as sight-call
 use Rattle.router.specs.Answers.{Route}
-use Rattle.faults.specs.Job as job-records
+use Rattle.kinds.specs.Job as job-records
 use Rattle.job.specs.Answers as job-calls
 use Rattle.told.specs.declared.Seen.{Seen}
 use Rattle.told.specs.declared.Long.{Long}

@@ -14,7 +14,7 @@ use Rattle.theta.specs.Search.{initial, choose, wins, around, close, expand, se
 use Rattle.problem.specs.Problem.{problem}
 use Rattle.router.specs.Answers.{workRow, searchRow, routeRow, found}
 use Rattle.records.specs.Records.{byte, inOrder}
-use Rattle.faults.specs.Job.{usedBy, coordinate}
+use Rattle.kinds.specs.Job.{usedBy, coordinate}
 use Rattle.faults.specs.Refusals.{netBefore, recordRows, jobRows}
 use Rattle.job.specs.Answers.{noSides, boardRow}
 use Rattle.worked.specs.Table.{AllHold, table, corner, enough}

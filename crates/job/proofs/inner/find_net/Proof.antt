@@ -7,7 +7,7 @@ use borrow.Author.Tests.{eq-eqb, ne-eqb}
 use Rattle.laws.specs.Below.{howMany}
 use Rattle.laws.proofs.Below.{many-pass, many-fail}
 use Rattle.records.specs.Records.{records, byte}
-use Rattle.faults.specs.Job.{isNet}
+use Rattle.kinds.specs.Job.{isNet}
 use Rattle.job.proofs.inner.Nets.{found-here, found-none}
 use Rattle.job.proofs.inner.find_net.Statement.{statement}
 use Rattle.job.proofs.inner.find_net.Tie as tie
