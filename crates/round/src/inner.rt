@@ -13,9 +13,9 @@ use crate::Spot;
 use board::Vertex;
 use board::inner::line_before;
 use open::list::open_vertex;
+use table::inner::units_between;
 use walks::inner::sees;
 use walks::inner::sees_neighbour;
-use table::inner::units_between;
 
 // The parent that the neighbour w would get, by one sight test: the taken vertex's parent if it sees w, else u itself.
 fn candidate(cells: &[u8], request: Request, u: Spot, parent: Spot, w: Spot) -> Spot

@@ -7,9 +7,9 @@ ghost use Rattle.board.specs.Inner.{Sound};
 ghost use Rattle.legs.specs.Leg.{far};
 ghost use Rattle.legs.specs.Stops.{edgeFrom};
 ghost use Rattle.walks.specs.Edges.{openEdges, stopAfter};
-use legs::Stop;
 use crate::leg;
 use crate::walls::is_walled;
+use legs::Stop;
 
 // The unit edge from p to q on the row c (level) or on the column c.
 fn edge(level: bool, c: usize, p: usize, q: usize) -> Stop

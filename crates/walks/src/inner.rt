@@ -7,7 +7,6 @@ ghost use Rattle.legs.specs.Sight.{sees};
 ghost use Rattle.legs.specs.Stops.{firstStop};
 ghost use Rattle.legs.specs.Neighbours.{neighbours};
 ghost use Rattle.legs.specs.Inner.{EndsOn};
-use legs::Stop;
 use crate::edges::open_edges;
 use crate::edges::stop_after;
 use crate::leg;
@@ -15,6 +14,7 @@ use crate::walk::first_blocked;
 use crate::walls::is_column_wall;
 use crate::walls::is_row_wall;
 use board::inner::is_cell_blocked;
+use legs::Stop;
 
 // What stops the leg first, counted from its first end. For users who ask what is in the way (document 02, item 2).
 pub fn first_stop(
