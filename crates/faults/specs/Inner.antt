@@ -10,7 +10,7 @@ use Rattle.records.specs.Records.{records}
 use Rattle.kinds.specs.Job.{isNet, width, height}
 use Rattle.steps.specs.declared.Progress.{Progress}
 use Rattle.steps.specs.Steps.{nothing}
-use Rattle.faults.specs.Refusals.{netBefore, recordRows, jobRows}
+use Rattle.faults.specs.Faults.{netBefore, recordRows, jobRows}
 
 -- no row refuses the job
 pub record Accepted (job : List ℕ) : Type 0 where

@@ -16,7 +16,7 @@ use Rattle.board.proofs.Rows.{board-sound, rows-pass, ends-pass}
 use Rattle.job.specs.declared.BoardAnswer.the-variants.{Board}
 use Rattle.job.specs.declared.NetAnswer.the-variants as net-read
 use Rattle.kinds.specs.Job.{width, height, boardCells, Net, netAt, nets, netRecord}
-use Rattle.faults.specs.Refusals.{jobRows}
+use Rattle.faults.specs.Faults.{jobRows}
 use Rattle.job.specs.Answers.{Sides, noSides, handedBoard, boardRow, boardAfter, BoardRead, noNet, handedNet, netRow}
 use Rattle.faults.specs.Inner.{Accepted}
 use Rattle.refusals.proofs.Refusing.{Numbered, answered}

@@ -11,7 +11,7 @@ use Rattle.job.specs.declared.BoardAnswer.the-variants.{Board, Refused, 
 use Rattle.job.specs.declared.NetAnswer.the-variants as net-read
 use Rattle.kinds.specs.Job.{width, height, nets, boardCells}
 use Rattle.refusals.specs.Refusals.{refusalRow}
-use Rattle.faults.specs.Refusals.{jobRows}
+use Rattle.faults.specs.Faults.{jobRows}
 use Rattle.job.specs.Answers.{Sides, noSides, handedBoard, boardRow, boardAfter, BoardRead, noNet, handedNet, netRow}
 use Rattle.faults.specs.Inner.{Accepted}
 use Rattle.refusals.proofs.Refusing.{listed, not-own, refused-same}

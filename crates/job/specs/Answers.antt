@@ -12,7 +12,7 @@ use Rattle.job.specs.declared.NetAnswer.{NetAnswer}
 use Rattle.job.specs.declared.NetAnswer.the-variants as net-read
 use Rattle.kinds.specs.Job.{width, height, boardCells, nets, netRecord, Net, netAt}
 use Rattle.refusals.specs.Refusals.{refusalRow}
-use Rattle.faults.specs.Refusals.{jobRows}
+use Rattle.faults.specs.Faults.{jobRows}
 
 -- ---- a board read
 

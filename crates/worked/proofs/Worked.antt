@@ -15,7 +15,7 @@ use Rattle.problem.specs.Problem.{problem}
 use Rattle.router.specs.Answers.{workRow, searchRow, routeRow, found}
 use Rattle.records.specs.Records.{byte, inOrder}
 use Rattle.kinds.specs.Job.{usedBy, coordinate}
-use Rattle.faults.specs.Refusals.{netBefore, recordRows, jobRows}
+use Rattle.faults.specs.Faults.{netBefore, recordRows, jobRows}
 use Rattle.job.specs.Answers.{noSides, boardRow}
 use Rattle.worked.specs.Table.{AllHold, table, corner, enough}
 

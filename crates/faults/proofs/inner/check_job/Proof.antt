@@ -8,7 +8,7 @@ use Rattle.laws.specs.Below.{howMany}
 use Rattle.board.specs.Handed.{passes, answer}
 use Rattle.records.specs.Records.{records, inOrder}
 use Rattle.records.proofs.InOrder.{none-yet, one-more}
-use Rattle.faults.specs.Refusals.{netBefore, recordRows, jobRows}
+use Rattle.faults.specs.Faults.{netBefore, recordRows, jobRows}
 use Rattle.faults.specs.Inner.{progress, jobStep}
 use Rattle.steps.specs.Steps.{handedStep}
 use Rattle.faults.proofs.Judging.{goes-on, stops, ends}
