@@ -1,4 +1,4 @@
--- `open::tree::enter` climbs from the leaf while the vertex is ahead.
+-- `tournament::tree::enter` climbs from the leaf while the vertex is ahead.
 use mathlib.Core.Bool.{Bool}
 use Prim.Native.Nat.{_≤_, _<_}
 use native.Mathlib.Omega.{arith}
@@ -8,10 +8,10 @@ use Rattle.laws.proofs.Tests.{answered-no, answered-yes}
 use Rattle.board.specs.Limits.{vertices-fit}
 use Rattle.reach.specs.Turns.{at}
 use Rattle.theta.specs.Order.{Rank, ranked, sooner}
-use Rattle.open.specs.Marked.{numbers, seen}
-use Rattle.open.proofs.Climbs.{Climbing, climbing-start, climbing-step, climbing-stop, climbing-end}
-use Rattle.open.proofs.tree.enter.Statement.{statement}
-use Rattle.open.proofs.tree.enter.Tie as tie
+use Rattle.tournament.specs.Ranks.{numbers, seen}
+use Rattle.tournament.proofs.Climbs.{Climbing, climbing-start, climbing-step, climbing-stop, climbing-end}
+use Rattle.tournament.proofs.tree.enter.Statement.{statement}
+use Rattle.tournament.proofs.tree.enter.Tie as tie
 
 abbrev Inv-loop : tie.InvT-loop
 Inv-loop leaf v own f g leads₀ keys₀ i₀ leads keys i = (i ≤ leaf) × Climbing (seen g) (numbers g) (ranked f own v) leaf leads₀ keys₀ i leads keys

@@ -6,8 +6,8 @@ use Prim.Native.Nat.{ℕ, _<_}
 use native.Mathlib.Omega.{arith}
 use native.Mathlib.Decide.{ℕ-discrete}
 use Rattle.theta.specs.Order.{Rank, sooner, Contest}
-use Rattle.open.specs.Contest.{noKey, WellRanked, Runs, First, Leads, none, some}
-use Rattle.open.specs.Tournament.{Else, Opened, Shown}
+use Rattle.tournament.specs.Contest.{noKey, WellRanked, Runs, First, Leads, none, some}
+use Rattle.tournament.specs.Tournament.{Else, Opened, Shown}
 use Rattle.theta.proofs.Order.{sooner-trans, sooner-irrefl, sooner-total, sooner-lower, sooner-least}
 
 -- ---- the same runners

@@ -7,7 +7,7 @@ use Prim.Native.Nat.{ℕ, _*_, _/_, _≤_, _<_}
 use lib.ListN.{length}
 use Rattle.reach.specs.Turns.{at}
 use Rattle.theta.specs.Order.{Rank, sooner, Contest}
-use Rattle.open.specs.Contest.{Leads}
+use Rattle.tournament.specs.Contest.{Leads}
 
 -- ---- the tree
 

@@ -6,8 +6,8 @@ use Prim.Native.Nat.{ℕ, _+_, _*_, _/_, _^_, _<_}
 use lib.ListN.{length}
 use Rattle.reach.specs.Turns.{at}
 use Rattle.theta.specs.Order.{Rank, sooner, Contest}
-use Rattle.open.specs.Contest.{WellRanked, Leads}
-use Rattle.open.specs.Tournament.{Groups, Planted, ofLeaf, Tournament, Else, Opened, Shown}
+use Rattle.tournament.specs.Contest.{WellRanked, Leads}
+use Rattle.tournament.specs.Tournament.{Groups, Planted, ofLeaf, Tournament, Else, Opened, Shown}
 
 -- there is a place for the leaf and its sibling, and so for every node above
 pub record Room (leaf : ℕ) (leads keys : List ℕ) : Type 0 where

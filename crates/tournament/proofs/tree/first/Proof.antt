@@ -1,8 +1,8 @@
--- `open::tree::first` reads node 1.
+-- `tournament::tree::first` reads node 1.
 use native.Mathlib.Omega.{arith}
 use borrow.Author.Needs.{needs}
-use Rattle.open.proofs.tree.first.Statement.{statement}
-use Rattle.open.proofs.tree.first.Tie as tie
+use Rattle.tournament.proofs.tree.first.Statement.{statement}
+use Rattle.tournament.proofs.tree.first.Tie as tie
 
 shared-slice-read-t4 : tie.Need-shared-slice-read-t4
 shared-slice-read-t4 c = search needs

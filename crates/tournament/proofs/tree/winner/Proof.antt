@@ -1,15 +1,15 @@
--- `open::tree::winner` has the sooner of the two.
+-- `tournament::tree::winner` has the sooner of the two.
 use mathlib.Core.Path.{_≡_, refl, sym, _∙_}
 use mathlib.Core.Bool.{false}
 use native.Mathlib.Omega.{arith}
 use denote.Ref.{now}
 use Rattle.laws.proofs.Tests.{false-of}
 use Rattle.theta.specs.Order.{sooner}
-use Rattle.open.specs.Marked.{seen}
+use Rattle.tournament.specs.Ranks.{seen}
 use Rattle.theta.proofs.Order.{sooner-least}
 use borrow.Author.Needs.{needs}
-use Rattle.open.proofs.tree.winner.Statement.{statement}
-use Rattle.open.proofs.tree.winner.Tie as tie
+use Rattle.tournament.proofs.tree.winner.Statement.{statement}
+use Rattle.tournament.proofs.tree.winner.Tie as tie
 
 mul-ahead : tie.Need-mul-ahead
 mul-ahead c = search needs

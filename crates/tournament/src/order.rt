@@ -3,7 +3,7 @@ ghost use mathlib.Core.Path.{_≡_};
 ghost use Prim.Native.Nat.{_<_};
 ghost use lib.ListN.{length};
 ghost use Rattle.theta.specs.Order.{ranked, sooner};
-ghost use Rattle.open.specs.Marked.{seen};
+ghost use Rattle.tournament.specs.Ranks.{seen};
 
 // Whether the vertex v, with this f and g, is taken rather than the holder, whose f is the key.
 pub fn ahead(f: u64, own: u64, v: usize, key: u64, holder: usize, g: &[u64]) -> bool

@@ -1,11 +1,11 @@
--- `open::order::ahead` tests as the order does: f, then g, then the number.
+-- `tournament::order::ahead` tests as the order does: f, then g, then the number.
 use denote.Ref.{now}
 use Rattle.theta.specs.Order.{Rank, ranked}
-use Rattle.open.specs.Marked.{seen}
+use Rattle.tournament.specs.Ranks.{seen}
 use Rattle.theta.proofs.Order.{sooner-f, sooner-g, sooner-number}
 use borrow.Author.Needs.{needs}
-use Rattle.open.proofs.order.ahead.Statement.{statement}
-use Rattle.open.proofs.order.ahead.Tie as tie
+use Rattle.tournament.proofs.order.ahead.Statement.{statement}
+use Rattle.tournament.proofs.order.ahead.Tie as tie
 
 -- what the two are ordered by
 abbrev new : tie.Start → Rank

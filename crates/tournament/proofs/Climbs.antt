@@ -9,10 +9,10 @@ use lib.ListN.{length, set, length-set}
 use lib.Seq.{getD-set-same, getD-set-other}
 use Rattle.reach.specs.Turns.{at}
 use Rattle.theta.specs.Order.{Rank, sooner, Contest}
-use Rattle.open.specs.Contest.{WellRanked}
-use Rattle.open.specs.Tournament.{Groups, Planted, Opened, Shown}
-use Rattle.open.specs.Nodes.{Seated, Entered, Renewed}
-use Rattle.open.proofs.Playing.{Entering, entering-start, entering-step, entering-stop, entering-end, Mending, mending-start, mending-step, mending-end}
+use Rattle.tournament.specs.Contest.{WellRanked}
+use Rattle.tournament.specs.Tournament.{Groups, Planted, Opened, Shown}
+use Rattle.tournament.specs.Nodes.{Seated, Entered, Renewed}
+use Rattle.tournament.proofs.Playing.{Entering, entering-start, entering-step, entering-stop, entering-end, Mending, mending-start, mending-step, mending-end}
 
 pub seated-set : {n : ℕ} {leads : List ℕ} (i v : ℕ) → i < length leads → v < n → Seated n leads → Seated n (set leads i v)
 seated-set {n} {leads} i v l o S = record { on = λ j. go j (ℕ-discrete j i) }

@@ -8,12 +8,12 @@ use native.Mathlib.Omega.{arith}
 use native.Mathlib.Decide.{ℕ-discrete}
 use Rattle.reach.specs.Turns.{at}
 use Rattle.theta.specs.Order.{Rank, sooner, Contest, least}
-use Rattle.open.specs.Contest.{noKey, WellRanked, Runs, First, Leads, none, some, Between, everyone}
-use Rattle.open.specs.Tournament.{Shown, Groups, Planted, Tournament}
+use Rattle.tournament.specs.Contest.{noKey, WellRanked, Runs, First, Leads, none, some, Between, everyone}
+use Rattle.tournament.specs.Tournament.{Shown, Groups, Planted, Tournament}
 use Rattle.theta.proofs.Order.{sooner-irrefl}
 use Rattle.theta.proofs.Least.{Chosen, nobody, somebody, least-chosen}
-use Rattle.open.proofs.Leading.{leads-move, leads-join, first-unique, leads-open, leads-none}
-use Rattle.open.proofs.Playing.{root-leads}
+use Rattle.tournament.proofs.Leading.{leads-move, leads-join, first-unique, leads-open, leads-none}
+use Rattle.tournament.proofs.Playing.{root-leads}
 
 -- ---- the leader of a range
 

@@ -10,10 +10,10 @@ use lib.ListN.{length, set, length-set}
 use lib.Seq.{getD-set-same, getD-set-other}
 use Rattle.reach.specs.Turns.{at}
 use Rattle.theta.specs.Order.{Rank, sooner, Contest}
-use Rattle.open.specs.Contest.{noKey, WellRanked, Leads, none, some, everyone}
-use Rattle.open.specs.Tournament.{Under, here, above, Groups, Planted, ofLeaf, ofNode, Tournament, Else, Opened, Shown}
-use Rattle.open.proofs.Leading.{leads-part, leads-else, leads-join, leads-ahead, leads-behind}
-use Rattle.open.proofs.Halving.{under-le, under-cases, under-half, under-trans, under?, under-root, under-child}
+use Rattle.tournament.specs.Contest.{noKey, WellRanked, Leads, none, some, everyone}
+use Rattle.tournament.specs.Tournament.{Under, here, above, Groups, Planted, ofLeaf, ofNode, Tournament, Else, Opened, Shown}
+use Rattle.tournament.proofs.Leading.{leads-part, leads-else, leads-join, leads-ahead, leads-behind}
+use Rattle.tournament.proofs.Halving.{under-le, under-cases, under-half, under-trans, under?, under-root, under-child}
 
 -- ---- the ends
 

@@ -4,8 +4,8 @@ ghost use Prim.Native.Nat.{_+_, _-_, _*_, _/_, _^_, _<_};
 ghost use lib.ListN.{length};
 ghost use Rattle.reach.specs.Turns.{at};
 ghost use Rattle.theta.specs.Order.{ranked};
-ghost use Rattle.open.specs.Nodes.{Room, Seated, Won, Entered, Renewed};
-ghost use Rattle.open.specs.Marked.{numbers, seen};
+ghost use Rattle.tournament.specs.Nodes.{Room, Seated, Won, Entered, Renewed};
+ghost use Rattle.tournament.specs.Ranks.{numbers, seen};
 use crate::order::ahead;
 use board::Vertex;
 

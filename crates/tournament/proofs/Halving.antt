@@ -5,7 +5,7 @@ use Prim.Native.Nat.{ℕ, zero, suc, _+_, _-_, _*_, _/_, _%_, _≤_, _<_}
 use native.Mathlib.Omega.{arith}
 use native.Mathlib.Decide.{ℕ-discrete}
 use lib.Bits.{bitXor, differ, xor-step, xor-zero-r}
-use Rattle.open.specs.Tournament.{Under, here, above}
+use Rattle.tournament.specs.Tournament.{Under, here, above}
 
 -- the climb does not rise
 pub under-le : {j i : ℕ} → Under j i → j ≤ i

@@ -1,4 +1,4 @@
--- `open::tree::renew` gives each node on the way to the root the sooner of its two leaders.
+-- `tournament::tree::renew` gives each node on the way to the root the sooner of its two leaders.
 use mathlib.Core.Path.{_≡_, refl, _∙_}
 use mathlib.Core.Logic.{_≢_}
 use mathlib.Core.List.{List}
@@ -7,10 +7,10 @@ use native.Mathlib.Omega.{arith}
 use denote.Ref.{now}
 use lib.ListN.{length, set, length-set}
 use Rattle.board.specs.Limits.{vertices-fit}
-use Rattle.open.specs.Marked.{numbers, seen}
-use Rattle.open.proofs.Climbs.{Renewing, renewing-start, renewing-step, renewing-end}
-use Rattle.open.proofs.tree.renew.Statement.{statement}
-use Rattle.open.proofs.tree.renew.Tie as tie
+use Rattle.tournament.specs.Ranks.{numbers, seen}
+use Rattle.tournament.proofs.Climbs.{Renewing, renewing-start, renewing-step, renewing-end}
+use Rattle.tournament.proofs.tree.renew.Statement.{statement}
+use Rattle.tournament.proofs.tree.renew.Tie as tie
 
 abbrev Inv-loop : tie.InvT-loop
 Inv-loop leaf g leads₀ keys₀ i₀ first₀ leads keys i first = (0 < i) × (i ≤ leaf) × Renewing (seen g) (numbers g) leaf leads₀ keys₀ i (first .vertex) (first .f) leads keys
