@@ -1,13 +1,15 @@
 -- `faults::inner::check_job` judges the whole job. The loop's invariant: the records before pass, and what was read is what they say.
 use mathlib.Core.Path.{_≡_, refl, sym, ap, _∙_}
-use Prim.Native.Nat.{_-_, _≤_}
+use Prim.Native.Nat.{_-_, _≤_, _<_}
 use native.Mathlib.Omega.{arith}
+use lib.ListN.{length}
 use borrow.Author.Needs.{needs}
 use borrow.Author.Tests.{lt-ltb, le-ltb, eq-eqb, ne-eqb}
 use Rattle.laws.specs.Below.{howMany}
 use Rattle.board.specs.Handed.{passes, answer}
 use Rattle.records.specs.Records.{records, inOrder}
 use Rattle.records.proofs.InOrder.{none-yet, one-more}
+use Rattle.kinds.specs.Job.{longestJob}
 use Rattle.faults.specs.Faults.{netBefore, recordRows, jobRows}
 use Rattle.faults.specs.Inner.{progress, jobStep}
 use Rattle.steps.specs.Steps.{handedStep}
@@ -23,7 +25,7 @@ abbrev μ-loop : tie.MeasureT-loop
 
 returns : tie.Need-returns Inv-loop μ-loop
 unfolding jobStep jobRows
-returns c = rw (lt-ltb _ _ (c .if1 .taken))
+returns c = let long : longestJob < length (c .before .before .args .job .now) = omega arith in rw (lt-ltb longestJob _ long)
 
 returns-2 : tie.Need-returns-2 Inv-loop μ-loop
 unfolding jobStep jobRows

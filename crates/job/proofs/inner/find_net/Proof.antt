@@ -45,7 +45,8 @@ returns c =
     let e = c .before .before in
     let l = e .before .before .before .loop in
     let net = eq-eqb _ 3 (sym (e .before .byte-of .ensures) ∙ e .if1 .left) in
-    c .record-at .ensures ∙ found-here _ (l .i) (omega arith) net (sym (l .inv .2) ∙ c .before .if2 .taken)
+    let here : l .before ≡ e .before .before .before .before .before .args .index = omega arith in
+    c .record-at .ensures ∙ found-here _ (l .i) (omega arith) net (sym (l .inv .2) ∙ here)
 
 add-before : tie.Need-add-before Inv-loop μ-loop
 add-before c = omega arith

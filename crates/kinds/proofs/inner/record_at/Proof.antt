@@ -8,6 +8,13 @@ use Rattle.kinds.proofs.Says.{isKnown, Neat, says-unknown, says-unused,
 use Rattle.kinds.proofs.inner.record_at.Statement.{statement}
 use Rattle.kinds.proofs.inner.record_at.Tie as tie
 
+-- where the type was found known
+abbrev read : tie.Else1 → tie.After-byte-of
+read c = c .before .before
+
+known : (c : tie.Else1) → isKnown (read c .byte-of .result) ≡ true
+known c = not-false (isKnown (read c .byte-of .result)) (c .if1 .left)
+
 byte-of-requires : tie.Need-byte-of-requires
 byte-of-requires c κs = search needs
 
@@ -18,13 +25,6 @@ returns : tie.Need-returns
 returns c =
     let read = c .before .before in
     says-unknown _ _ (read .byte-of .ensures) (c .before .stray-byte .ensures) (not-true (isKnown (read .byte-of .result)) (c .if1 .taken))
-
--- where the type was found known
-abbrev read : tie.Else1 → tie.After-byte-of
-read c = c .before .before
-
-known : (c : tie.Else1) → isKnown (read c .byte-of .result) ≡ true
-known c = not-false (isKnown (read c .byte-of .result)) (c .if1 .left)
 
 returns-2 : tie.Need-returns-2
 returns-2 c =

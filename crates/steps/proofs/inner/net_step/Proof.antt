@@ -1,10 +1,16 @@
 -- `steps::inner::net_step` judges a net record by 12, 17, then 16.
-use mathlib.Core.Bool.{_&&_}
+use mathlib.Core.Path.{_≡_}
+use mathlib.Core.Bool.{false, _&&_}
+use lib.Dec.{leb}
 use borrow.Author.Needs.{needs}
 use borrow.Author.Tests.{not-true, not-false, eq-eqb, ne-eqb}
 use Rattle.steps.specs.Steps.{netStep}
 use Rattle.steps.proofs.inner.net_step.Statement.{statement}
 use Rattle.steps.proofs.inner.net_step.Tie as tie
+
+-- what 17 lets through has a number above the last, wherever its ends are
+ordered : (c : tie.Else2) → (let a = c .before .before .before .before .before .args in leb (a .number) (a .past .last) ≡ false)
+ordered c = c .if2 .left
 
 is-vertex-requires : tie.Need-is-vertex-requires
 is-vertex-requires c κs = search needs
@@ -26,7 +32,7 @@ returns-3 c =
     let k = c .before .before .before in
     let off =
     rw (k .before .is-vertex .ensures, k .is-vertex2 .ensures) at (not-true (k .before .is-vertex .result && k .is-vertex2 .result) (c .if3 .taken)) in
-    rw (ne-eqb _ 0 (c .before .before .if1 .left), c .before .if2 .left, off)
+    rw (ne-eqb _ 0 (c .before .before .if1 .left), ordered (c .before), off)
 
 add-t18 : tie.Need-add-t18
 add-t18 c = search needs
@@ -37,7 +43,7 @@ returns-4 c =
     let k = c .before .before .before in
     let on =
     rw (k .before .is-vertex .ensures, k .is-vertex2 .ensures) at (not-false (k .before .is-vertex .result && k .is-vertex2 .result) (c .if3 .left)) in
-    rw (ne-eqb _ 0 (c .before .before .if1 .left), c .before .if2 .left, on)
+    rw (ne-eqb _ 0 (c .before .before .if1 .left), ordered (c .before), on)
 
 pub net-step-spec : {M : Type 1} → statement M
 net-step-spec =
