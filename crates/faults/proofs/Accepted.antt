@@ -18,8 +18,10 @@ use Rattle.records.proofs.InOrder.{each-passes}
 use Rattle.kinds.specs.declared.Record.{Record}
 use Rattle.kinds.specs.declared.Record.the-variants.{Keepout}
 use Rattle.kinds.proofs.Record.{the-type}
-use Rattle.kinds.specs.Job.{longestJob, isBoard, isKeepout, isNet, isUnknown, usedBy, width, height, left, top, right, bottom, netAt}
-use Rattle.faults.specs.Faults.{isMisplaced, isLate, isOversized, isBadKeepout, isUnordered, isOn, isEndOff, recordRows, jobRows}
+use Rattle.kinds.specs.Job.{longestJob, isBoard, isKeepout, isNet, isUnknown, usedBy, width, height, left, top, right}
+use Rattle.kinds.specs.Job.{bottom, netAt}
+use Rattle.faults.specs.Faults.{isMisplaced, isLate, isOversized, isBadKeepout, isUnordered, isOn, isEndOff}
+use Rattle.faults.specs.Faults.{recordRows, jobRows}
 use Rattle.faults.specs.Inner.{Accepted}
 use Rattle.kinds.proofs.Says.{isUntidy, Says, unknown, unused, board, keepout, net}
 

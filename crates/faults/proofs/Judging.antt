@@ -23,9 +23,11 @@ use Rattle.steps.specs.declared.Progress.{Progress}
 use Rattle.steps.specs.declared.Step.{Step}
 use Rattle.steps.specs.declared.Step.the-variants.{Next, Refused}
 use Rattle.steps.proofs.Step.{the-type}
-use Rattle.kinds.specs.Job.{longestJob, isBoard, isKeepout, isNet, isUnknown, usedBy, coordinate, width, height, left, top, right, bottom, netAt}
+use Rattle.kinds.specs.Job.{longestJob, isBoard, isKeepout, isNet, isUnknown, usedBy, coordinate, width, height, left}
+use Rattle.kinds.specs.Job.{top, right, bottom, netAt}
 use Rattle.refusals.specs.Refusals.{refusalRow}
-use Rattle.faults.specs.Faults.{isMisplaced, isLate, isOversized, isBadKeepout, netBefore, isUnordered, isEndOff, recordRows, jobRows}
+use Rattle.faults.specs.Faults.{isMisplaced, isLate, isOversized, isBadKeepout, netBefore, isUnordered}
+use Rattle.faults.specs.Faults.{isEndOff, recordRows, jobRows}
 use Rattle.faults.specs.Inner.{Accepted, progress, recordStep, jobStep}
 use Rattle.steps.specs.Steps.{nothing, handedStep, whyOf, boardStep, keepoutStep, netStep}
 use Rattle.kinds.proofs.Says.{isUntidy, Says, unknown, unused, board, keepout, net}

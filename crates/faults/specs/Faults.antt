@@ -7,7 +7,8 @@ use lib.ListN.{length}
 use Rattle.laws.specs.Below.{some}
 use Rattle.board.specs.Handed.{Verdict, row, andThen, sideFits}
 use Rattle.records.specs.Records.{records, byte, lengthRow, inOrder, unusedRow}
-use Rattle.kinds.specs.Job.{longestJob, isBoard, isKeepout, isNet, isUnknown, usedBy, width, height, left, top, right, bottom, netAt}
+use Rattle.kinds.specs.Job.{longestJob, isBoard, isKeepout, isNet, isUnknown, usedBy, width, height, left, top, right}
+use Rattle.kinds.specs.Job.{bottom, netAt}
 
 -- ---- what can be wrong with record i, besides an unknown type (13) and an unused byte (23)
 

@@ -8,7 +8,8 @@ use borrow.Author.Tests.{ltb-true, eqb-false, ne-eqb}
 use Rattle.board.specs.Handed.{Verdict, passes, refused, andThen, Handed, answer, unless, judged, numberIn, placeIn, secondIn}
 use Rattle.board.proofs.Verdicts.{Within}
 use Rattle.refusals.specs.declared.JobRefusal.{JobRefusal}
-use Rattle.refusals.specs.declared.JobRefusal.the-variants.{Long, Uneven, Order, Unknown, Side, Keepout, End, Number, Late, Unused}
+use Rattle.refusals.specs.declared.JobRefusal.the-variants.{Long, Uneven, Order, Unknown, Side, Keepout, End}
+use Rattle.refusals.specs.declared.JobRefusal.the-variants.{Number, Late, Unused}
 use Rattle.refusals.specs.Refusals.{refusalRow}
 
 -- ---- each refusal

@@ -1,7 +1,8 @@
 -- The row of each refusal of a job: its number, the record, and for 23 the byte.
 use Rattle.board.specs.Handed.{Verdict, refused}
 use Rattle.refusals.specs.declared.JobRefusal.{JobRefusal}
-use Rattle.refusals.specs.declared.JobRefusal.the-variants.{Long, Uneven, Order, Unknown, Side, Keepout, End, Number, Late, Unused}
+use Rattle.refusals.specs.declared.JobRefusal.the-variants.{Long, Uneven, Order, Unknown, Side, Keepout, End}
+use Rattle.refusals.specs.declared.JobRefusal.the-variants.{Number, Late, Unused}
 
 abbrev pub refusalRow : JobRefusal → Verdict
 refusalRow Long = refused 10 0 0

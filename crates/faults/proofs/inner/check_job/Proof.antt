@@ -1,4 +1,4 @@
--- `faults::inner::check_job` judges the whole job. The loop's invariant: the records before pass, and what was read is what they say.
+-- `faults::inner::check_job` judges the whole job. The loop's invariant: the records before pass, and what was read is theirs.
 use mathlib.Core.Path.{_≡_, refl, sym, ap, _∙_}
 use Prim.Native.Nat.{_-_, _≤_, _<_}
 use native.Mathlib.Omega.{arith}
