@@ -5,9 +5,9 @@ use Prim.Native.Nat.{ℕ}
 use Rattle.board.specs.Board.{Board}
 use Rattle.problem.specs.Problem.{problem}
 use Rattle.router.specs.Answers.{Slices, slicesAfter}
-use Rattle.capi.specs.declared.Found.{Found}
-use Rattle.capi.specs.declared.Sides.{Sides}
-use Rattle.capi.specs.Told.{RoutedForC, ReadForC}
+use Rattle.told.specs.declared.Found.{Found}
+use Rattle.told.specs.declared.Sides.{Sides}
+use Rattle.capi.specs.Calls.{RoutedForC, ReadForC}
 
 -- of `wexxolin_route`
 pub route-determined : {b : Board} {sx sy gx gy : ℕ} {before after₁ after₂ : Slices} {r s : Found}

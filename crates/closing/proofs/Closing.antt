@@ -7,8 +7,9 @@ use Rattle.board.specs.Handed.{Handed}
 use Rattle.router.specs.Answers.{Route, Slices, Routed}
 use Rattle.router.specs.Demands.{Exhaustive}
 use Rattle.router.proofs.Demands.{route-exhaustive}
-use Rattle.capi.specs.declared.Found.{Found}
-use Rattle.capi.specs.Told.{toldRoute, RoutedForC}
+use Rattle.told.specs.declared.Found.{Found}
+use Rattle.told.specs.Told.{toldRoute}
+use Rattle.capi.specs.Calls.{RoutedForC}
 use Rattle.closing.specs.Demands.{Given, Numbered, Kept, Theta, Searched, Left, fields}
 use Rattle.closing.proofs.Table.{row-first, row-only, row-known, row-bare}
 use Rattle.closing.proofs.Leaving.{kept, as-theta, left}

@@ -8,8 +8,8 @@ use Rattle.board.specs.Board.{Board, board, blocked}
 use Rattle.board.specs.Handed.{firstBad, boardRows, endRows}
 use Rattle.length.specs.Root.{root, rootIn}
 use Rattle.length.specs.Units.{unitsOf}
-use Rattle.sight.specs.Sight.{side, positive, negative, someCorner, spans, crossed, cellsFree, rowWall, columnWall, between, edgesOpen, sees}
-use Rattle.sight.specs.Neighbours.{neighbours, visible}
+use Rattle.legs.specs.Sight.{side, positive, negative, someCorner, spans, crossed, cellsFree, rowWall, columnWall, between, edgesOpen, sees}
+use Rattle.legs.specs.Neighbours.{neighbours, visible}
 use Rattle.reach.specs.Turns.{turns}
 use Rattle.theta.specs.Order.{sooner, least}
 use Rattle.theta.specs.Search.{initial, choose, wins, around, close, expand, search, trail}

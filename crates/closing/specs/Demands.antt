@@ -13,7 +13,7 @@ use Rattle.theta.specs.Search.{State, search, path}
 use Rattle.problem.specs.Problem.{problem}
 use Rattle.router.specs.Answers.{Route, noRoute, Slices}
 use Rattle.router.specs.Demands.{Joined, Rightly}
-use Rattle.capi.specs.declared.Found.{Found}
+use Rattle.told.specs.declared.Found.{Found}
 
 -- ---- the words of the table
 

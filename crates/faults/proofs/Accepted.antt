@@ -15,13 +15,15 @@ use Rattle.board.proofs.Verdicts.{row-passes, both-pass}
 use Rattle.records.specs.Records.{records, byte, lengthRow, inOrder, unusedRow}
 use Rattle.records.proofs.Stray.{unused-passes}
 use Rattle.records.proofs.InOrder.{each-passes}
-use Rattle.faults.specs.declared.kinds.Record.{Record}
-use Rattle.faults.specs.declared.kinds.Record.the-variants.{Keepout}
-use Rattle.faults.proofs.kinds.Record.{the-type}
-use Rattle.faults.specs.Job.{longestJob, isBoard, isKeepout, isNet, usedBy, width, height, left, top, right, bottom, netAt}
-use Rattle.faults.specs.Refusals.{isUnknown, isMisplaced, isLate, isOversized, isBadKeepout, isUnordered, isOn, isEndOff, recordRows, jobRows}
+use Rattle.kinds.specs.declared.Record.{Record}
+use Rattle.kinds.specs.declared.Record.the-variants.{Keepout}
+use Rattle.kinds.proofs.Record.{the-type}
+use Rattle.kinds.specs.Job.{longestJob, isBoard, isKeepout, isNet, isUnknown, usedBy, width, height, left, top, right}
+use Rattle.kinds.specs.Job.{bottom, netAt}
+use Rattle.faults.specs.Faults.{isMisplaced, isLate, isOversized, isBadKeepout, isUnordered, isOn, isEndOff}
+use Rattle.faults.specs.Faults.{recordRows, jobRows}
 use Rattle.faults.specs.Inner.{Accepted}
-use Rattle.faults.proofs.kinds.Says.{isUntidy, Says, unknown, unused, board, keepout, net}
+use Rattle.kinds.proofs.Says.{isUntidy, Says, unknown, unused, board, keepout, net}
 
 -- a test that is yes, with a second that is no
 second : (a b : Bool) → (a && not b) ≡ false → a ≡ true → b ≡ true

@@ -1,5 +1,2 @@
-pub mod Job
-pub mod Refusals
+pub mod Faults
 pub mod Inner
-pub mod Kinds
-pub mod Steps

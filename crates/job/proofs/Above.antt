@@ -15,15 +15,15 @@ use Rattle.board.proofs.Verdicts.{row-passes, both-pass, passes-on, row-within,
 use Rattle.board.proofs.Rows.{board-sound, rows-pass, ends-pass}
 use Rattle.job.specs.declared.BoardAnswer.the-variants.{Board}
 use Rattle.job.specs.declared.NetAnswer.the-variants as net-read
-use Rattle.faults.specs.Job.{width, height, boardCells, Net, netAt, nets, netRecord}
-use Rattle.faults.specs.Refusals.{jobRows}
+use Rattle.kinds.specs.Job.{width, height, boardCells, Net, netAt, nets, netRecord}
+use Rattle.faults.specs.Faults.{jobRows}
 use Rattle.job.specs.Answers.{Sides, noSides, handedBoard, boardRow, boardAfter, BoardRead, noNet, handedNet, netRow}
 use Rattle.faults.specs.Inner.{Accepted}
-use Rattle.faults.proofs.Refusing.{Numbered, answered}
+use Rattle.refusals.proofs.Refusing.{Numbered, answered}
 use Rattle.faults.proofs.Accepted.{width-fits, height-fits, start-on, goal-on}
 use Rattle.job.proofs.cells.Grid.{cells-length, cells-bits}
 use Rattle.job.proofs.inner.Nets.{net-record-below, net-record-is}
-use Rattle.faults.proofs.steps.Judging.{job-numbered}
+use Rattle.faults.proofs.Judging.{job-numbered}
 
 -- ---- an accepted job
 

@@ -10,9 +10,9 @@ use Rattle.job.specs.declared.BoardAnswer.{BoardAnswer}
 use Rattle.job.specs.declared.BoardAnswer.the-variants as board-read
 use Rattle.job.specs.declared.NetAnswer.{NetAnswer}
 use Rattle.job.specs.declared.NetAnswer.the-variants as net-read
-use Rattle.faults.specs.Job.{Net}
+use Rattle.kinds.specs.Job.{Net}
 use Rattle.job.specs.Answers.{Sides, handedBoard, handedNet, netRow, BoardRead}
-use Rattle.faults.proofs.Refusing.{refusalOf, listed, not-own}
+use Rattle.refusals.proofs.Refusing.{refusalOf, listed, not-own}
 
 -- the answer that hands this back
 boardOf : Handed Sides → BoardAnswer

@@ -6,14 +6,15 @@ use native.Mathlib.Omega.{arith}
 use lib.ListN.{length, drop}
 use borrow.Author.Tests.{eqb-false, lt-ltb, le-ltb, ne-eqb}
 use Rattle.board.specs.Handed.{Handed, answer, row}
-use Rattle.faults.specs.declared.JobRefusal.{JobRefusal}
+use Rattle.refusals.specs.declared.JobRefusal.{JobRefusal}
 use Rattle.job.specs.declared.BoardAnswer.the-variants.{Board, Refused, Short}
 use Rattle.job.specs.declared.NetAnswer.the-variants as net-read
-use Rattle.faults.specs.Job.{width, height, nets, boardCells}
-use Rattle.faults.specs.Refusals.{jobRows, refusalRow}
+use Rattle.kinds.specs.Job.{width, height, nets, boardCells}
+use Rattle.refusals.specs.Refusals.{refusalRow}
+use Rattle.faults.specs.Faults.{jobRows}
 use Rattle.job.specs.Answers.{Sides, noSides, handedBoard, boardRow, boardAfter, BoardRead, noNet, handedNet, netRow}
 use Rattle.faults.specs.Inner.{Accepted}
-use Rattle.faults.proofs.Refusing.{listed, not-own, refused-same}
+use Rattle.refusals.proofs.Refusing.{listed, not-own, refused-same}
 
 module _ (job before : List ℕ) where
   -- a refusal leaves the slice as it is

@@ -7,8 +7,8 @@ use borrow.Author.Tests.{lt-ltb}
 use Rattle.laws.specs.Below.{some, howMany, firstWhere}
 use Rattle.board.specs.Handed.{Handed, refused, answer, judged}
 use Rattle.records.specs.Records.{byte, inOrder}
-use Rattle.faults.specs.Job.{longestJob, usedBy, coordinate, inKeepout, cellsUpTo, boardCells, Net, nets, netRecord}
-use Rattle.faults.specs.Refusals.{netBefore, recordRows, jobRows}
+use Rattle.kinds.specs.Job.{longestJob, usedBy, coordinate, inKeepout, cellsUpTo, boardCells, Net, nets, netRecord}
+use Rattle.faults.specs.Faults.{netBefore, recordRows, jobRows}
 use Rattle.job.specs.Answers.{Sides, noSides, boardRow, boardAfter, noNet, netRow}
 
 abbrev pub board2 : List ℕ

@@ -10,8 +10,9 @@ use Rattle.job.specs.declared.BoardAnswer.{BoardAnswer}
 use Rattle.job.specs.declared.BoardAnswer.the-variants as board-read
 use Rattle.job.specs.declared.NetAnswer.{NetAnswer}
 use Rattle.job.specs.declared.NetAnswer.the-variants as net-read
-use Rattle.faults.specs.Job.{width, height, boardCells, nets, netRecord, Net, netAt}
-use Rattle.faults.specs.Refusals.{jobRows, refusalRow}
+use Rattle.kinds.specs.Job.{width, height, boardCells, nets, netRecord, Net, netAt}
+use Rattle.refusals.specs.Refusals.{refusalRow}
+use Rattle.faults.specs.Faults.{jobRows}
 
 -- ---- a board read
 

@@ -3,10 +3,10 @@ use Prim.Native.Nat.{ℕ}
 use mathlib.Core.Bool.{cond}
 use mathlib.Core.List.{List}
 use lib.Dec.{leb}
-use Rattle.faults.specs.declared.kinds.Record.{Record}
-use Rattle.faults.specs.declared.kinds.Record.the-variants.{Unknown}
-use Rattle.faults.specs.Job.{nets, netRecord}
-use Rattle.faults.specs.Kinds.{recordAt}
+use Rattle.kinds.specs.declared.Record.{Record}
+use Rattle.kinds.specs.declared.Record.the-variants.{Unknown}
+use Rattle.kinds.specs.Job.{nets, netRecord}
+use Rattle.kinds.specs.Inner.{recordAt}
 
 -- what the net with an index says
 unfoldable pub netSaid : List ℕ → (index : ℕ) → Record

@@ -2,11 +2,11 @@
 ghost use mathlib.Core.Path.{_≡_};
 ghost use Prim.Native.Nat.{_*_, _≤_, _<_};
 ghost use lib.ListN.{length};
-ghost use Rattle.faults.specs.Job.{width, height, inside, inKeepout};
+ghost use Rattle.kinds.specs.Job.{width, height, inside, inKeepout};
 ghost use Rattle.faults.specs.Inner.{Accepted};
 ghost use Rattle.job.specs.Cells.{Filled, Painted};
-use faults::kinds::Record;
-use faults::kinds::record_at;
+use kinds::Record;
+use kinds::inner::record_at;
 use records::RECORD;
 
 // What a blocked cell's byte is.

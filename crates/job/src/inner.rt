@@ -4,9 +4,9 @@ ghost use Rattle.faults.specs.Inner.{Accepted};
 ghost use Rattle.job.specs.Answers.{handedNet, netRow};
 ghost use Rattle.job.specs.Inner.{netSaid};
 use crate::NetAnswer;
-use faults::kinds::NET;
-use faults::kinds::Record;
-use faults::kinds::record_at;
+use kinds::NET;
+use kinds::Record;
+use kinds::inner::record_at;
 use records::RECORD;
 use records::inner::byte_of;
 

@@ -1,16 +1,15 @@
 // The job reader: the board and the nets of a job that the check accepts are taken out.
 ghost use mathlib.Core.Path.{_≡_};
 ghost use Rattle.records.specs.Records.{records};
-ghost use Rattle.faults.specs.Inner.{Accepted};
-ghost use Rattle.faults.specs.Steps.{progress};
+ghost use Rattle.faults.specs.Inner.{Accepted, progress};
 ghost use Rattle.job.specs.Answers.{handedBoard, handedNet, BoardRead, netRow};
 use cells::fill;
 use cells::paint_keepouts;
-use faults::JobRefusal;
-use faults::steps::Progress;
-use faults::steps::Step;
-use faults::steps::check_job;
+use faults::inner::check_job;
 use inner::net_at;
+use refusals::JobRefusal;
+use steps::Progress;
+use steps::Step;
 
 mod cells;
 pub mod inner;

@@ -9,10 +9,10 @@ use Rattle.board.specs.Limits.{largestSide}
 use Rattle.board.specs.Board.{numberOf, columnOf, rowOf}
 use Rattle.board.proofs.Numbers.{column-number, row-number, number-back, column-on, row-on}
 use Rattle.theta.specs.Order.{Contest}
-use Rattle.open.specs.Contest.{Between}
-use Rattle.open.specs.Tournament.{Planted, ofLeaf, Tournament}
+use Rattle.tournament.specs.Contest.{Between}
+use Rattle.tournament.specs.Tournament.{Planted, ofLeaf, Tournament}
+use Rattle.tournament.specs.Nodes.{Room}
 use Rattle.open.specs.Groups.{group, perRow, groupStart, groupEnd, leafAt, groupsOf, nodesOf}
-use Rattle.open.specs.Nodes.{Room}
 
 -- a place in rows of p each is in one row, and there in one column
 one-place : (p a b c d : ℕ) → b < p → d < p → p * a + b ≡ p * c + d → (a ≡ c) × (b ≡ d)

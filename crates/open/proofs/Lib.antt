@@ -1,8 +1,3 @@
-pub mod Leading
-pub mod Halving
-pub mod Playing
-pub mod Scanning
-pub mod Climbs
 pub mod Grouping
 pub mod Looking
 pub mod Listing

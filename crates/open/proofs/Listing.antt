@@ -15,14 +15,15 @@ use Rattle.length.specs.Legs.{step}
 use Rattle.length.specs.Units.{units}
 use Rattle.reach.specs.Turns.{at}
 use Rattle.theta.specs.Order.{ranked, least}
-use Rattle.open.specs.Contest.{noKey, WellRanked}
-use Rattle.open.specs.Tournament.{Else, Opened}
+use Rattle.tournament.specs.Ranks.{seen, numbers}
+use Rattle.tournament.specs.Contest.{noKey, WellRanked}
+use Rattle.tournament.specs.Tournament.{Else, Opened}
+use Rattle.tournament.specs.Nodes.{Entered, Renewed}
 use Rattle.open.specs.Groups.{leafAt, groupsOf, nodesOf}
-use Rattle.open.specs.Nodes.{Entered, Renewed}
-use Rattle.open.specs.Marked.{seen, numbers, toGoal, boardContest, Sited, Small, Listed, Blank, Lower, Looked, Opens, Closes}
+use Rattle.open.specs.Marked.{toGoal, boardContest, Sited, Small, Listed, Blank, Lower, Looked, Opens, Closes}
 use Rattle.theta.proofs.Order.{sooner-lower}
-use Rattle.open.proofs.Playing.{tournament-none, key-now}
-use Rattle.open.proofs.Scanning.{root-least, root-on, root-none}
+use Rattle.tournament.proofs.Playing.{tournament-none, key-now}
+use Rattle.tournament.proofs.Scanning.{root-least, root-on, root-none}
 use Rattle.open.proofs.Grouping.{planted, leaves-positive, leaf-number}
 use Rattle.open.proofs.Looking.{contest-shown, contest-fair, to-goal, numbers-most}
 

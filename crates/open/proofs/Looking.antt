@@ -16,12 +16,13 @@ use Rattle.length.proofs.Units.{units-fit}
 use Rattle.length.proofs.Legs.{step-size}
 use Rattle.reach.specs.Turns.{at}
 use Rattle.theta.specs.Order.{ranked, sooner}
-use Rattle.open.specs.Contest.{noKey, WellRanked, Leads, Between}
-use Rattle.open.specs.Tournament.{Shown}
+use Rattle.tournament.specs.Ranks.{seen, numbers}
+use Rattle.tournament.specs.Contest.{noKey, WellRanked, Leads, Between}
+use Rattle.tournament.specs.Tournament.{Shown}
 use Rattle.open.specs.Groups.{groupStart, groupEnd}
-use Rattle.open.specs.Marked.{seen, numbers, toGoal, boardContest, Sited, Small, Looked}
-use Rattle.open.proofs.Leading.{leads-part}
-use Rattle.open.proofs.Scanning.{scan-none, scan-closed, scan-open}
+use Rattle.open.specs.Marked.{toGoal, boardContest, Sited, Small, Looked}
+use Rattle.tournament.proofs.Leading.{leads-part}
+use Rattle.tournament.proofs.Scanning.{scan-none, scan-closed, scan-open}
 use Rattle.open.proofs.Grouping.{leaf-strip, strip-leaf, strip-on}
 
 -- ---- the contest

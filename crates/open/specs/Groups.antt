@@ -1,7 +1,7 @@
 -- The groups of a board: eight vertices of a row each, or what is left of the row.
 use Prim.Native.Nat.{ℕ, _+_, _*_, _/_, min}
 use Rattle.board.specs.Board.{columnOf, rowOf}
-use Rattle.open.specs.Tournament.{Groups}
+use Rattle.tournament.specs.Tournament.{Groups}
 
 -- the vertices of a group
 abbrev pub group : ℕ

@@ -1,28 +1,21 @@
 -- The open list of a board: the open vertices by their marks, in the order of f, g and the vertex number.
 use mathlib.Core.Path.{_≡_}
 use mathlib.Core.List.{List}
-use Prim.Native.Nat.{ℕ, _+_, _*_, _^_, _≤_, _<_, min}
+use Prim.Native.Nat.{ℕ, _+_, _*_, _^_, _≤_, _<_}
 use lib.ListN.{length, set}
-use Rattle.board.specs.Limits.{largestSide, mostVertices}
+use Rattle.board.specs.Limits.{largestSide}
 use Rattle.board.specs.Board.{numberOf, columnOf, rowOf}
 use Rattle.length.specs.Legs.{step}
 use Rattle.length.specs.Units.{units}
 use Rattle.reach.specs.Turns.{at}
-use Rattle.theta.specs.Order.{Rank, ranked, Contest, contest}
-use Rattle.open.specs.Contest.{noKey, Leads}
-use Rattle.open.specs.Tournament.{Tournament, ofLeaf}
+use Rattle.theta.specs.Order.{Contest, contest}
+use Rattle.tournament.specs.Ranks.{numbers}
+use Rattle.tournament.specs.Contest.{noKey, Leads}
+use Rattle.tournament.specs.Tournament.{Tournament, ofLeaf}
+use Rattle.tournament.specs.Nodes.{Seated}
 use Rattle.open.specs.Groups.{leafAt, groupsOf, nodesOf}
-use Rattle.open.specs.Nodes.{Seated}
 
 -- ---- the ranks
-
--- the rank of v with this key, where g is what is known of each vertex
-abbrev pub seen : List ℕ → ℕ → ℕ → Rank
-seen g v k = ranked k (at g v) v
-
--- the vertex numbers that have an entry in g
-abbrev pub numbers : List ℕ → ℕ
-numbers g = min (length g) mostVertices
 
 -- h of each vertex: the leg length to the goal
 abbrev pub toGoal : (width gx gy : ℕ) → ℕ → ℕ

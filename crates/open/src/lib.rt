@@ -1,4 +1,2 @@
 // The open list: a tournament of the open vertices, over groups of eight vertices of a row.
 pub mod list;
-mod order;
-pub mod tree;

@@ -6,13 +6,13 @@ ghost use Rattle.board.specs.Board.{numberOf};
 ghost use Rattle.table.specs.Lengths.{Known};
 ghost use Rattle.open.specs.Groups.{leafAt, groupEnd};
 ghost use Rattle.open.specs.Marked.{Sited, Small, Listed, Lower, Looked, Opens, Closes};
-use crate::order::ahead;
-use crate::tree::Leader;
-use crate::tree::NO_KEY;
-use crate::tree::enter;
-use crate::tree::renew;
 use board::Vertex;
 use table::inner::units_between;
+use tournament::order::ahead;
+use tournament::tree::Leader;
+use tournament::tree::NO_KEY;
+use tournament::tree::enter;
+use tournament::tree::renew;
 
 // The vertices of a group.
 pub const GROUP: usize = 8;

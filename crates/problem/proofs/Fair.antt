@@ -3,7 +3,7 @@ use Prim.Native.Nat.{ℕ}
 use Rattle.board.specs.Board.{Board, number, column, row}
 use Rattle.board.specs.Inner.{OnBoard}
 use Rattle.board.proofs.Numbers.{number-below, column-on, row-on}
-use Rattle.sight.proofs.Visible.{visible-below, visible-sees, visible-symmetric, visible-irreflexive}
+use Rattle.legs.proofs.Visible.{visible-below, visible-sees, visible-symmetric, visible-irreflexive}
 use Rattle.theta.specs.Fair.{Fair, FairLegs}
 use Rattle.problem.specs.Problem.{problem}
 use Rattle.problem.specs.Sizes.{longest}

@@ -8,7 +8,7 @@ use Rattle.board.specs.Board.{Board, vertices, number}
 use Rattle.board.specs.Inner.{Sound, OnBoard}
 use Rattle.reach.specs.Complete.{Complete, PairsTested}
 use Rattle.reach.specs.Turns.{at}
-use Rattle.sight.specs.Neighbours.{visible}
+use Rattle.legs.specs.Neighbours.{visible}
 use Rattle.theta.specs.Search.{State, search, trail, path}
 use Rattle.theta.specs.Demands.{IsRoute, Work}
 use Rattle.theta.specs.Lent.{Searched}

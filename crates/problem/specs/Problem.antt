@@ -9,8 +9,8 @@ use Rattle.length.specs.Legs.{step}
 use Rattle.length.specs.Root.{root, Bounds}
 use Rattle.length.specs.Units.{square, units}
 use Rattle.reach.specs.Turns.{at}
-use Rattle.sight.specs.Sight.{sees}
-use Rattle.sight.specs.Neighbours.{visible}
+use Rattle.legs.specs.Sight.{sees}
+use Rattle.legs.specs.Neighbours.{visible}
 use Rattle.theta.specs.Search.{Problem}
 
 -- sight, and a leg's length, between the vertices numbered u and v

@@ -14,11 +14,11 @@ use Rattle.board.specs.Board.{Board, vertices, numberOf, columnOf, rowOf, colum
 use Rattle.board.proofs.Numbers.{number-below, column-number, row-number, number-back, column-on}
 use Rattle.length.specs.Legs.{step}
 use Rattle.length.specs.Units.{units}
-use Rattle.sight.specs.Leg.{far}
-use Rattle.sight.specs.Sight.{sees}
-use Rattle.sight.specs.Neighbours.{neighbours, visible}
-use Rattle.sight.proofs.Neighbours.{neighbours-near}
-use Rattle.sight.proofs.Visible.{visible-neighbours}
+use Rattle.legs.specs.Leg.{far}
+use Rattle.legs.specs.Sight.{sees}
+use Rattle.legs.specs.Neighbours.{neighbours, visible}
+use Rattle.legs.proofs.Neighbours.{neighbours-near}
+use Rattle.legs.proofs.Visible.{visible-neighbours}
 use Rattle.reach.specs.Turns.{at}
 use Rattle.round.specs.declared.Request.{Request}
 use Rattle.round.specs.declared.Spot.{Spot}

@@ -3,7 +3,7 @@ ghost use mathlib.Core.Path.{_≡_};
 ghost use mathlib.Core.Bool.{cond};
 ghost use Prim.Native.Nat.{_+_, _^_, _≤_, _<_, min};
 ghost use Rattle.board.specs.Limits.{mostVertices};
-ghost use Rattle.sight.specs.Sight.{sees};
+ghost use Rattle.legs.specs.Sight.{sees};
 ghost use Rattle.round.specs.Request.{boardOf, asked, sizeOf, diagonal, Asked, Placed};
 ghost use Rattle.table.specs.Lengths.{Known};
 ghost use Rattle.round.specs.Round.{Taken, Beside, ListedFor, Settling, Settled};
@@ -13,9 +13,9 @@ use crate::Spot;
 use board::Vertex;
 use board::inner::line_before;
 use open::list::open_vertex;
-use sight::inner::sees;
-use sight::inner::sees_neighbour;
 use table::inner::units_between;
+use walks::inner::sees;
+use walks::inner::sees_neighbour;
 
 // The parent that the neighbour w would get, by one sight test: the taken vertex's parent if it sees w, else u itself.
 fn candidate(cells: &[u8], request: Request, u: Spot, parent: Spot, w: Spot) -> Spot

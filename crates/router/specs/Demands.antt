@@ -8,7 +8,7 @@ use lib.Ieee.Exact.{HasValue}
 use Rattle.board.specs.Board.{Board, vertices, number}
 use Rattle.board.specs.Handed.{Handed}
 use Rattle.length.specs.Units.{unitsPerCell}
-use Rattle.sight.specs.Neighbours.{visible}
+use Rattle.legs.specs.Neighbours.{visible}
 use Rattle.reach.specs.Number.{Number, Number²}
 use Rattle.reach.specs.Reach.{Reach, NearPair}
 use Rattle.theta.specs.Demands.{IsRoute}

@@ -11,7 +11,7 @@ use Rattle.board.specs.Board.{number, numberOf, columnOf, rowOf}
 use Rattle.board.specs.Inner.{OnBoard}
 use Rattle.board.proofs.Numbers.{number-below, number-back, column-number, row-number, column-on, row-on}
 use Rattle.theta.specs.Order.{Contest, least}
-use Rattle.open.specs.Contest.{noKey}
+use Rattle.tournament.specs.Contest.{noKey}
 use Rattle.open.specs.Groups.{nodesOf}
 use Rattle.open.specs.Marked.{toGoal, boardContest, Sited, Blank, Lower, Opens}
 use Rattle.open.proofs.Listing.{listed-empty, listed-least, listed-on, listed-none, no-stale-key}

@@ -16,13 +16,13 @@ use board::Vertex;
 use board::inner::number_of;
 use open::list::GROUP;
 use open::list::open_vertex;
-use open::tree::NO_KEY;
 use round::Request;
 use table::MIDDLE_SIDE;
 use table::SMALL_SIDE;
 use table::large_lengths;
 use table::middle_lengths;
 use table::small_lengths;
+use tournament::tree::NO_KEY;
 
 // The nodes of the largest board; node 0 is not used.
 const NODES: usize = 2 * LINE * (SIDE / GROUP + 1);

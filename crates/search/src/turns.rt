@@ -18,11 +18,11 @@ use board::inner::column_of;
 use board::inner::number_of;
 use board::inner::row_of;
 use open::list::close_vertex;
-use open::tree::NO_KEY;
-use open::tree::first;
 use round::Request;
 use round::Spot;
 use round::inner::round;
+use tournament::tree::NO_KEY;
+use tournament::tree::first;
 
 // Zeros for the first n of each; what lies beyond is kept. A loop for each slice, since slices may overlap as far as the compiler knows.
 fn clear_g(n: usize, g: &mut [u64])

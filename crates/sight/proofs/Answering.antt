@@ -9,7 +9,7 @@ use Rattle.board.specs.declared.Checked.{Checked}
 use Rattle.board.specs.declared.Checked.the-variants.{Accepted, Refused}
 use Rattle.board.specs.Handed.{Handed, Verdict, passes, answer, unless, judged, legRows, refusalRow, verdict}
 use Rattle.board.proofs.Verdicts.{accepted, refused-row, refusal-handed}
-use Rattle.sight.specs.Sight.{sees}
+use Rattle.legs.specs.Sight.{sees}
 use Rattle.sight.specs.Answers.{Seen, unseen, sightRow}
 
 module _ (b : Board) (ax ay bx by : ℕ) (checked : Checked) (e : verdict checked ≡ legRows b ax ay bx by) where

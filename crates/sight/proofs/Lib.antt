@@ -1,14 +1,2 @@
-pub mod Corners
-pub mod Axis
-pub mod Sides
-pub mod Crossing
-pub mod First
-pub mod Points
-pub mod Seen
-pub mod UnitEdges
-pub mod Nearest
-pub mod Symmetric
-pub mod Neighbours
-pub mod Visible
 pub mod Determined
 pub mod Answering

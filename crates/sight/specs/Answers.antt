@@ -5,7 +5,7 @@ use Rattle.board.specs.Board.{Board}
 use Rattle.board.specs.Handed.{Handed, answer, unless, judged, legRows, refusalRow}
 use Rattle.sight.specs.declared.Answer.{Answer}
 use Rattle.sight.specs.declared.Answer.the-variants.{Yes, No, Refused}
-use Rattle.sight.specs.Sight.{sees}
+use Rattle.legs.specs.Sight.{sees}
 
 -- 1 for sight, 0 for none
 pub record Seen : Type 0 where

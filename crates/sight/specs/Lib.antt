@@ -1,9 +1,1 @@
-pub mod Sight
-pub mod Neighbours
 pub mod Answers
-pub mod Leg
-pub mod Stops
-pub mod Nearer
-pub mod Walk
-pub mod Edges
-pub mod Inner

@@ -5,19 +5,7 @@ ghost use Rattle.sight.specs.Answers.{handedSight, sightRow};
 use board::Checked;
 use board::Refusal;
 use board::check_leg;
-
-mod edges;
-pub mod inner;
-mod leg;
-mod walk;
-mod walls;
-
-// What stops a leg: nothing, a cell, or a unit edge with its nearer vertex first.
-pub enum Stop {
-    Clear,
-    Cell(usize, usize),
-    Edge(usize, usize, usize, usize),
-}
+use walks::inner::sees;
 
 // The answer to a sight request (document 01's 0), or why there is none (1 to 5).
 pub enum Answer {
@@ -41,7 +29,7 @@ pub fn sight(
     match check_leg(cells, width, height, ax, ay, bx, by) {
         Checked::Refused(why) => Answer::Refused(why),
         Checked::Accepted => {
-            if inner::sees(cells, width, height, ax, ay, bx, by) {
+            if sees(cells, width, height, ax, ay, bx, by) {
                 Answer::Yes
             } else {
                 Answer::No

@@ -6,16 +6,16 @@ use Rattle.board.specs.Board.{blocked}
 use Rattle.board.specs.Handed.{refused, judged, firstBad, boardRows, endRows}
 use Rattle.length.specs.Root.{root, rootIn}
 use Rattle.length.specs.Units.{unitsOf}
-use Rattle.sight.specs.Sight.{side, positive, negative, someCorner, spans, crossed, cellsFree, rowWall, columnWall, between, edgesOpen, sees}
-use Rattle.sight.specs.Neighbours.{neighbours, visible}
+use Rattle.legs.specs.Sight.{side, positive, negative, someCorner, spans, crossed, cellsFree, rowWall, columnWall, between, edgesOpen, sees}
+use Rattle.legs.specs.Neighbours.{neighbours, visible}
 use Rattle.reach.specs.Turns.{turns}
 use Rattle.theta.specs.Order.{sooner, least}
 use Rattle.theta.specs.Search.{initial, choose, wins, around, close, expand, search, trail, path}
 use Rattle.problem.specs.Problem.{problem}
 use Rattle.router.specs.Answers.{workRow, searchRow, routeRow, found}
 use Rattle.records.specs.Records.{byte, inOrder}
-use Rattle.faults.specs.Job.{usedBy, coordinate}
-use Rattle.faults.specs.Refusals.{netBefore, recordRows, jobRows}
+use Rattle.kinds.specs.Job.{usedBy, coordinate}
+use Rattle.faults.specs.Faults.{netBefore, recordRows, jobRows}
 use Rattle.job.specs.Answers.{noSides, boardRow}
 use Rattle.worked.specs.Table.{AllHold, table, corner, enough}
 

@@ -9,7 +9,7 @@ use Rattle.board.specs.Limits.{mostVertices}
 use Rattle.board.specs.Board.{Board, board}
 use Rattle.board.specs.Handed.{Handed}
 use Rattle.length.specs.Units.{units}
-use Rattle.sight.specs.Sight.{sees}
+use Rattle.legs.specs.Sight.{sees}
 use Rattle.router.specs.Answers.{Route, Slices, slices, routeRow, found, none}
 
 -- a question and its answer

@@ -1,6 +1,6 @@
 -- `wexxolin_board` is the board read for C.
 use mathlib.Core.Path.{ap, _∙_}
-use Rattle.capi.specs.Told.{toldBoard}
+use Rattle.told.specs.Told.{toldBoard}
 use borrow.Author.Needs.{needs}
 use Rattle.capi.proofs.wexxolin_board.Statement.{statement}
 use Rattle.capi.proofs.wexxolin_board.Tie as tie

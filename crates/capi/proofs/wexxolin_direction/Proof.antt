@@ -4,7 +4,7 @@ use lib.IntN.{ℤ}
 use borrow.Author.Needs.{needs}
 use Rattle.length.specs.Answers.{directionRow}
 use Rattle.length.proofs.Signed.{narrowed}
-use Rattle.capi.specs.Told.{toldDirection}
+use Rattle.told.specs.Told.{toldDirection}
 use Rattle.capi.proofs.wexxolin_direction.Statement.{statement}
 use Rattle.capi.proofs.wexxolin_direction.Tie as tie
 

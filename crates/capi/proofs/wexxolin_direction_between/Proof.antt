@@ -1,7 +1,7 @@
 -- `wexxolin_direction_between` is the call by vertices for C.
 use mathlib.Core.Path.{ap, _∙_}
 use borrow.Author.Needs.{needs}
-use Rattle.capi.specs.Told.{toldDirection}
+use Rattle.told.specs.Told.{toldDirection}
 use Rattle.capi.proofs.wexxolin_direction_between.Statement.{statement}
 use Rattle.capi.proofs.wexxolin_direction_between.Tie as tie
 

@@ -5,7 +5,7 @@ use borrow.Author.Needs.{needs}
 use Rattle.length.specs.Answers.{lengthRow, handedLength}
 use Rattle.length.proofs.Signed.{narrowed}
 use Rattle.length.proofs.Answers.{length-exact}
-use Rattle.capi.specs.Told.{toldLength}
+use Rattle.told.specs.Told.{toldLength}
 use Rattle.capi.proofs.wexxolin_length.Statement.{statement}
 use Rattle.capi.proofs.wexxolin_length.Tie as tie
 

@@ -2,7 +2,7 @@
 use mathlib.Core.Path.{ap, _∙_}
 use borrow.Author.Needs.{needs}
 use Rattle.length.proofs.Answers.{length-between-exact}
-use Rattle.capi.specs.Told.{toldLength}
+use Rattle.told.specs.Told.{toldLength}
 use Rattle.capi.proofs.wexxolin_length_between.Statement.{statement}
 use Rattle.capi.proofs.wexxolin_length_between.Tie as tie
 

@@ -1,6 +1,6 @@
 -- `wexxolin_net` is the net read for C.
 use mathlib.Core.Path.{ap, _∙_}
-use Rattle.capi.specs.Told.{toldNet}
+use Rattle.told.specs.Told.{toldNet}
 use borrow.Author.Needs.{needs}
 use Rattle.capi.proofs.wexxolin_net.Statement.{statement}
 use Rattle.capi.proofs.wexxolin_net.Tie as tie

@@ -1,6 +1,6 @@
 -- `wexxolin_route` is the route call for C.
 use borrow.Author.Needs.{needs}
-use Rattle.capi.proofs.Told.{routed-for-c}
+use Rattle.capi.proofs.Routed.{routed-for-c}
 use Rattle.capi.proofs.wexxolin_route.Statement.{statement}
 use Rattle.capi.proofs.wexxolin_route.Tie as tie
 

@@ -1,6 +1,6 @@
 -- `wexxolin_sight` is the sight call for C.
 use mathlib.Core.Path.{ap, _∙_}
-use Rattle.capi.specs.Told.{toldSight}
+use Rattle.told.specs.Told.{toldSight}
 use borrow.Author.Needs.{needs}
 use Rattle.capi.proofs.wexxolin_sight.Statement.{statement}
 use Rattle.capi.proofs.wexxolin_sight.Tie as tie

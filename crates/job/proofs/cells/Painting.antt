@@ -13,10 +13,10 @@ use lib.Seq.{getD-set-same, getD-set-other}
 use borrow.Author.Tests.{lt-ltb, le-ltb, le-leb, lt-leb}
 use Rattle.laws.proofs.Tests.{order, bool-cases, and-both, and-false, or-false}
 use Rattle.laws.specs.Below.{some}
-use Rattle.faults.specs.declared.kinds.Record.the-variants.{Keepout}
-use Rattle.faults.specs.Job.{isKeepout, left, top, right, bottom, inside, covers}
+use Rattle.kinds.specs.declared.Record.the-variants.{Keepout}
+use Rattle.kinds.specs.Job.{isKeepout, left, top, right, bottom, inside, covers}
 use Rattle.job.specs.Cells.{Filled, Painted}
-use Rattle.faults.proofs.kinds.Says.{Says, keepout}
+use Rattle.kinds.proofs.Says.{Says, keepout}
 
 abbrev between : (a x b : ℕ) → Bool
 between a x b = leb a x && ltb x b

@@ -13,14 +13,14 @@ use Rattle.laws.proofs.Tests.{order}
 use Rattle.laws.proofs.Below.{indexed-here, many-above, indexed-below, indexed-does-pass}
 use Rattle.board.specs.Handed.{answer}
 use Rattle.records.specs.Records.{records, byte}
-use Rattle.faults.specs.declared.kinds.Record.{Record}
-use Rattle.faults.specs.declared.kinds.Record.the-variants.{Net, Unknown}
-use Rattle.faults.proofs.kinds.Record.{the-type}
+use Rattle.kinds.specs.declared.Record.{Record}
+use Rattle.kinds.specs.declared.Record.the-variants.{Net, Unknown}
+use Rattle.kinds.proofs.Record.{the-type}
 use Rattle.job.specs.declared.NetAnswer.the-variants as net-read
-use Rattle.faults.specs.Job.{isNet, netAt, nets, netRecord}
+use Rattle.kinds.specs.Job.{isNet, netAt, nets, netRecord}
 use Rattle.job.specs.Answers.{handedNet, netRow}
 use Rattle.faults.specs.Inner.{Accepted}
-use Rattle.faults.specs.Kinds.{recordAt}
+use Rattle.kinds.specs.Inner.{recordAt}
 use Rattle.job.specs.Inner.{netSaid}
 use Rattle.faults.proofs.Accepted.{is-tidy}
 

@@ -1,7 +1,7 @@
 -- `job::read_board` checks the whole job and hands out its board.
 use mathlib.Core.Path.{sym, ap, _∙_}
-use Rattle.faults.specs.Steps.{handedStep}
-use Rattle.faults.proofs.steps.Judging.{whole-next, whole-refused}
+use Rattle.steps.specs.Steps.{handedStep}
+use Rattle.faults.proofs.Judging.{whole-next, whole-refused}
 use Rattle.job.proofs.Reading.{board-refused}
 use borrow.Author.Needs.{needs}
 use Rattle.job.proofs.read_board.Statement.{statement}

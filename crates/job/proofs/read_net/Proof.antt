@@ -1,8 +1,8 @@
 -- `job::read_net` checks the whole job and takes out the net.
 use mathlib.Core.Path.{sym, ap, _∙_}
-use Rattle.faults.specs.Refusals.{refusalRow}
-use Rattle.faults.specs.Steps.{handedStep}
-use Rattle.faults.proofs.steps.Judging.{whole-next, whole-stopped}
+use Rattle.refusals.specs.Refusals.{refusalRow}
+use Rattle.steps.specs.Steps.{handedStep}
+use Rattle.faults.proofs.Judging.{whole-next, whole-stopped}
 use Rattle.job.proofs.Reading.{net-refused}
 use borrow.Author.Needs.{needs}
 use Rattle.job.proofs.read_net.Statement.{statement}

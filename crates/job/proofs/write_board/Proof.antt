@@ -1,5 +1,7 @@
 -- `job::write_board` hands out an accepted job's board, or refuses a short slice.
+use Prim.Native.Nat.{_*_, _<_}
 use native.Mathlib.Omega.{arith}
+use lib.ListN.{length}
 use Rattle.job.proofs.cells.Grid.{whole-width, whole-few, whole-room, whole-short, whole-done}
 use borrow.Author.Needs.{needs}
 use Rattle.job.proofs.write_board.Statement.{statement}
@@ -16,7 +18,10 @@ mul-cells : tie.Need-mul-cells
 mul-cells c = let s = c .before .before in omega (arith, whole-few (s .pre .0) (s .pre .1))
 
 returns : tie.Need-returns
-returns c = let s = c .before .before .before in whole-short (s .pre .0) (s .pre .1) _ (c .if1 .taken)
+returns c =
+    let s = c .before .before .before in
+    let short : length (s .args .board .now) < s .args .whole .width * s .args .whole .height = omega arith in
+    whole-short (s .pre .0) (s .pre .1) _ short
 
 fill-requires : tie.Need-fill-requires
 fill-requires c κs = search needs

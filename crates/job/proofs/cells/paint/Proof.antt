@@ -4,7 +4,7 @@ use Prim.Native.Nat.{_+_, _*_, _-_, _≤_}
 use native.Mathlib.Nat.{mul-le-mul-right}
 use native.Mathlib.Omega.{arith}
 use lib.ListN.{length}
-use Rattle.faults.specs.Job.{inside}
+use Rattle.kinds.specs.Job.{inside}
 use Rattle.job.specs.Cells.{Painted}
 use Rattle.job.proofs.cells.Painting.{lines-none, lines-more}
 use Rattle.job.proofs.cells.paint.Statement.{statement}

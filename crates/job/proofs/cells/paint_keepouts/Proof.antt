@@ -5,9 +5,9 @@ use native.Mathlib.Nat.{mul-le-mul-right}
 use native.Mathlib.Omega.{arith}
 use borrow.Author.Needs.{needs}
 use Rattle.records.specs.Records.{records}
-use Rattle.faults.specs.Job.{inKeepout}
+use Rattle.kinds.specs.Job.{inKeepout}
 use Rattle.job.specs.Cells.{Painted}
-use Rattle.faults.proofs.kinds.Says.{said}
+use Rattle.kinds.proofs.Says.{said}
 use Rattle.faults.proofs.Accepted.{no-keepout, keepout-on}
 use Rattle.job.proofs.cells.Painting.{coveredBy, keepouts-none, keepouts-skip, keepouts-more}
 use Rattle.job.proofs.cells.paint_keepouts.Statement.{statement}

@@ -7,7 +7,7 @@ use borrow.Author.Tests.{eq-eqb, ne-eqb}
 use Rattle.laws.specs.Below.{howMany}
 use Rattle.laws.proofs.Below.{many-pass, many-fail}
 use Rattle.records.specs.Records.{records, byte}
-use Rattle.faults.specs.Job.{isNet}
+use Rattle.kinds.specs.Job.{isNet}
 use Rattle.job.proofs.inner.Nets.{found-here, found-none}
 use Rattle.job.proofs.inner.find_net.Statement.{statement}
 use Rattle.job.proofs.inner.find_net.Tie as tie
@@ -45,7 +45,8 @@ returns c =
     let e = c .before .before in
     let l = e .before .before .before .loop in
     let net = eq-eqb _ 3 (sym (e .before .byte-of .ensures) ∙ e .if1 .left) in
-    c .record-at .ensures ∙ found-here _ (l .i) (omega arith) net (sym (l .inv .2) ∙ c .before .if2 .taken)
+    let here : l .before ≡ e .before .before .before .before .before .args .index = omega arith in
+    c .record-at .ensures ∙ found-here _ (l .i) (omega arith) net (sym (l .inv .2) ∙ here)
 
 add-before : tie.Need-add-before Inv-loop μ-loop
 add-before c = omega arith

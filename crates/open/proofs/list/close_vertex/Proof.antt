@@ -9,6 +9,17 @@ use Rattle.open.proofs.Listing.{small-closed, listed-closed}
 use Rattle.open.proofs.list.close_vertex.Statement.{statement}
 use Rattle.open.proofs.list.close_vertex.Tie as tie
 
+-- the start, from where the group has been looked through
+abbrev start : tie.After-look → tie.Start
+start k = k .before .before .before .before .before .before .before
+
+returns : tie.Need-returns
+returns c =
+    let r = c .before .before .before .before in
+    let l = r .before .before .before in
+    let s = start (l .before) in
+    listed-closed (s .pre .0) (s .pre .1 .0) (s .pre .1 .1 .0) (l .before .look .ensures) (rw (l .leaf .ensures) at (r .renew .ensures))
+
 -- it is one of the vertices
 on : (s : tie.Start) → s .args .v < (s .args .width + 1) * (s .args .height + 1)
 on s =
@@ -26,10 +37,6 @@ look-requires c κs =
 
 leaf-requires : tie.Need-leaf-requires
 leaf-requires c κs = search needs
-
--- the start, from where the group has been looked through
-abbrev start : tie.After-look → tie.Start
-start k = k .before .before .before .before .before .before .before
 
 renew-requires : tie.Need-renew-requires
 renew-requires c κs =
@@ -50,13 +57,6 @@ same-length-2 c = search needs
 
 same-length-3 : tie.Need-same-length-3
 same-length-3 c = search needs
-
-returns : tie.Need-returns
-returns c =
-    let r = c .before .before .before .before in
-    let l = r .before .before .before in
-    let s = start (l .before) in
-    listed-closed (s .pre .0) (s .pre .1 .0) (s .pre .1 .1 .0) (l .before .look .ensures) (rw (l .leaf .ensures) at (r .renew .ensures))
 
 pub close-vertex-spec : {M : Type 1} → statement M
 close-vertex-spec =

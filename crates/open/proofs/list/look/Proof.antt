@@ -62,6 +62,23 @@ here k =
     let o = column-below (s .pre .0) (k .before .loop .column) l in
     record { inside = l; on = o .0; below = o .1; few = omega (arith, o .1, vertices-most (s .pre .0)) }
 
+loop-again : tie.Need-loop-again Inv-loop μ-loop
+loop-again c =
+    let k = c .before .before in
+    let l = k .before .loop in
+    let s = start (k .before) in
+    let a = s .args in
+    let t = here k .inside in
+    let low = l .inv .0 in
+    let next : Looking (a .width) (a .height) (a .x) (a .y) (a .gx) (a .gy) (now (a .g)) (now (a .marks)) (l .column + 1) (c .if1 .first) (c .if1 .key) =
+    ⊎-elim
+    (λ w. rw (w .5, w .6) (looking-open (s .pre .0) (s .pre .1 .0) (l .inv .2) low t _ (w .0 .taken) (w .2 .ensures) (w .3 .ensures) true (w .4 .taken)))
+    (⊎-elim
+    (λ w. rw (w .5, w .6) (looking-open (s .pre .0) (s .pre .1 .0) (l .inv .2) low t _ (w .0 .taken) (w .2 .ensures) (w .3 .ensures) false (w .4 .left)))
+    (λ w. rw (w .1, w .2) (looking-closed (s .pre .0) (s .pre .1 .0) (l .inv .2) low t (w .0 .left))))
+    (c .if1 .came) in
+    (omega (arith, low), omega (arith, t), next)
+
 add-v : tie.Need-add-v Inv-loop μ-loop
 add-v c = omega (arith, here c .few)
 
@@ -106,23 +123,6 @@ add-column c = omega (arith, here (c .before .before) .few)
 
 loop-less : tie.Need-loop-less Inv-loop μ-loop
 loop-less c = omega (arith, here (c .before .before) .inside)
-
-loop-again : tie.Need-loop-again Inv-loop μ-loop
-loop-again c =
-    let k = c .before .before in
-    let l = k .before .loop in
-    let s = start (k .before) in
-    let a = s .args in
-    let t = here k .inside in
-    let low = l .inv .0 in
-    let next : Looking (a .width) (a .height) (a .x) (a .y) (a .gx) (a .gy) (now (a .g)) (now (a .marks)) (l .column + 1) (c .if1 .first) (c .if1 .key) =
-    ⊎-elim
-    (λ w. rw (w .5, w .6) (looking-open (s .pre .0) (s .pre .1 .0) (l .inv .2) low t _ (w .0 .taken) (w .2 .ensures) (w .3 .ensures) true (w .4 .taken)))
-    (⊎-elim
-    (λ w. rw (w .5, w .6) (looking-open (s .pre .0) (s .pre .1 .0) (l .inv .2) low t _ (w .0 .taken) (w .2 .ensures) (w .3 .ensures) false (w .4 .left)))
-    (λ w. rw (w .1, w .2) (looking-closed (s .pre .0) (s .pre .1 .0) (l .inv .2) low t (w .0 .left))))
-    (c .if1 .came) in
-    (omega (arith, low), omega (arith, t), next)
 
 returns : tie.Need-returns Inv-loop μ-loop
 returns c =

@@ -9,7 +9,7 @@ use borrow.Author.Tests.{not-true, not-false}
 use denote.Ref.{now}
 use lib.ListN.{length, length-set}
 use Rattle.board.specs.Limits.{mostVertices}
-use Rattle.sight.specs.Sight.{sees}
+use Rattle.legs.specs.Sight.{sees}
 use Rattle.table.proofs.Table.{known-leg}
 use Rattle.reach.specs.Turns.{at}
 use Rattle.theta.specs.Search.{Problem, State}
@@ -71,17 +71,7 @@ returns-2 c =
     let far = near-said (s .pre .0 .placed) (s .pre .1 .0) (apart k) (n .ensures) (not-true (n .result) (c .if2 .taken)) in
     (look-far (asking s) (a .u .number) (a .w .number) (lent s) far, s .pre .1 .1 .1 .0)
 
-candidate-requires : tie.Need-candidate-requires
-candidate-requires c κs = search needs
-
--- the candidate parent: a vertex, the definition's, and one whose g is bounded
-from-placed : (k : tie.After-candidate) → let a = start (k .before .before .before) .args in Placed (boardOf (now (a .cells)) (a .request)) (k .candidate .result)
-from-placed k =
-    let s = start (k .before .before .before) in
-    let a = s .args in
-    let seen = sees (boardOf (now (a .cells)) (a .request)) (a .parent .x) (a .parent .y) (a .w .x) (a .w .y) in
-    rw (k .candidate .ensures) (placed-cond seen (s .pre .0 .placed-parent) (s .pre .0 .placed))
-
+-- the candidate parent: the definition's, a vertex, and one whose g is bounded
 from-is : (k : tie.After-candidate) → let s = start (k .before .before .before) in
     let a = s .args in
     let o = at (now (a .parents)) (a .u .number) in
@@ -92,11 +82,21 @@ from-is k =
     rw (s .pre .0 .parent-is)
     (candidate-number (now (a .cells)) (a .request) (s .pre .0 .placed-parent) (s .pre .1 .0 .placed) (k .candidate .result) (a .u) (k .candidate .ensures))
 
+from-placed : (k : tie.After-candidate) → let a = start (k .before .before .before) .args in Placed (boardOf (now (a .cells)) (a .request)) (k .candidate .result)
+from-placed k =
+    let s = start (k .before .before .before) in
+    let a = s .args in
+    let seen = sees (boardOf (now (a .cells)) (a .request)) (a .parent .x) (a .parent .y) (a .w .x) (a .w .y) in
+    rw (k .candidate .ensures) (placed-cond seen (s .pre .0 .placed-parent) (s .pre .0 .placed))
+
 from-on : (k : tie.After-candidate) → let a = start (k .before .before .before) .args in
     (k .candidate .result .number < sizeOf (a .request))
     × (at (now (a .g)) (k .candidate .result .number) ≤ largest (a .request .width) (a .request .height))
 unfolding problem
 from-on k = let s = start (k .before .before .before) in ready-candidate (s .pre .0 .ready) (s .args .w .number) (k .candidate .result .number) (from-is k)
+
+candidate-requires : tie.Need-candidate-requires
+candidate-requires c κs = search needs
 
 mul-own : tie.Need-mul-own
 mul-own c = omega (arith, from-on c .0, few (start (c .before .before .before)))
@@ -146,6 +146,25 @@ slice-read-old : tie.Need-slice-read-old
 unfolding problem
 slice-read-old c = let s = start (c .before .before .before .before .before .before) in omega (arith, on s, s .pre .0 .ready .room-g)
 
+returns-3 : tie.Need-returns-3
+unfolding problem
+returns-3 c =
+    let j = c .before .before in
+    let k = j .before .before in
+    let f = k .before .before in
+    let e = k .before .before .before in
+    let s = start e in
+    let a = s .args in
+    let P = s .pre .1 .0 in
+    let near = near-said (s .pre .0 .placed) P (apart e) (f .sees-neighbour .ensures) (not-false (f .sees-neighbour .result) (k .before .if2 .left)) in
+    let own = len-said (now (a .cells)) (a .request) (from-placed k) (P .placed) (at (now (a .g)) (k .candidate .result .number)) (j .units-between .ensures) in
+    let looked = look-due (asking s) (a .u .number) (a .w .number) (lent s) near (e .if1 .left) (k .candidate .result .number) (candidate-g j) (from-is k) own in
+    elim (c .if3 .came) [
+      | inl w ↦ let S = w .6 .ensures in
+          (rw (w .17, w .18, w .19, S .g-is, S .parent-is, S .mark-is) (looked true (w .0 .taken)), rw (w .17, w .19, w .20, w .21) (S .listed))
+      | inr w ↦ (rw (w .1, w .2, w .3) (looked false (w .0 .left)), rw (w .1, w .3, w .4, w .5) (s .pre .1 .1 .1 .0))
+    ]
+
 settle-requires : tie.Need-settle-requires
 unfolding problem
 settle-requires c κs =
@@ -193,25 +212,6 @@ same-length-4 c = elim (c .if3 .came) [ inl w ↦ ap length (w .20) ∙ w .6 .ke
 
 same-length-5 : tie.Need-same-length-5
 same-length-5 c = elim (c .if3 .came) [ inl w ↦ ap length (w .21) ∙ w .6 .kept .1 .1 .1 .1 .1 .1 .1 .1 .0 | inr w ↦ ap length (w .5) ]
-
-returns-3 : tie.Need-returns-3
-unfolding problem
-returns-3 c =
-    let j = c .before .before in
-    let k = j .before .before in
-    let f = k .before .before in
-    let e = k .before .before .before in
-    let s = start e in
-    let a = s .args in
-    let P = s .pre .1 .0 in
-    let near = near-said (s .pre .0 .placed) P (apart e) (f .sees-neighbour .ensures) (not-false (f .sees-neighbour .result) (k .before .if2 .left)) in
-    let own = len-said (now (a .cells)) (a .request) (from-placed k) (P .placed) (at (now (a .g)) (k .candidate .result .number)) (j .units-between .ensures) in
-    let looked = look-due (asking s) (a .u .number) (a .w .number) (lent s) near (e .if1 .left) (k .candidate .result .number) (candidate-g j) (from-is k) own in
-    elim (c .if3 .came) [
-      | inl w ↦ let S = w .6 .ensures in
-          (rw (w .17, w .18, w .19, S .g-is, S .parent-is, S .mark-is) (looked true (w .0 .taken)), rw (w .17, w .19, w .20, w .21) (S .listed))
-      | inr w ↦ (rw (w .1, w .2, w .3) (looked false (w .0 .left)), rw (w .1, w .3, w .4, w .5) (s .pre .1 .1 .1 .0))
-    ]
 
 pub look-spec : {M : Type 1} → statement M
 look-spec =

@@ -9,6 +9,11 @@ use Rattle.table.proofs.Squares.{square-small}
 use Rattle.table.proofs.inner.units_between.Statement.{statement}
 use Rattle.table.proofs.inner.units_between.Tie as tie
 
+returns : tie.Need-returns
+returns c =
+    let k = c .before in
+    c .units-by .ensures ∙ ap unitsOf (ap₂ (λ (x y : ℕ). x + y) (k .before .squared .ensures) (k .squared2 .ensures))
+
 squared-requires : tie.Need-squared-requires
 squared-requires c κs = search needs
 
@@ -34,11 +39,6 @@ add-units-by c = omega (arith, small c)
 
 units-by-requires : tie.Need-units-by-requires
 units-by-requires c κs = (small c, rw (c .before .squared .ensures, c .squared2 .ensures) (c .before .before .before .pre .1))
-
-returns : tie.Need-returns
-returns c =
-    let k = c .before in
-    c .units-by .ensures ∙ ap unitsOf (ap₂ (λ (x y : ℕ). x + y) (k .before .squared .ensures) (k .squared2 .ensures))
 
 pub units-between-spec : {M : Type 1} → statement M
 units-between-spec =

@@ -1,0 +1,22 @@
+-- The two calls for C that write to a lent slice: what C gets, and what the slices hold before and after.
+use Prim.Native.Nat.{ℕ}
+use mathlib.Core.Path.{_≡_}
+use mathlib.Core.List.{List}
+use lib.ListN.{length}
+use Rattle.board.specs.Board.{Board}
+use Rattle.problem.specs.Problem.{problem}
+use Rattle.router.specs.Answers.{Slices, routeRow, slicesAfter}
+use Rattle.job.specs.Answers.{boardRow, boardAfter}
+use Rattle.told.specs.declared.Found.{Found}
+use Rattle.told.specs.declared.Sides.{Sides}
+use Rattle.told.specs.Told.{toldRoute, toldBoard}
+
+-- a route for C: what it gets, and what the slices hold before and after
+pub record RoutedForC (b : Board) (sx sy gx gy : ℕ) (before after : Slices) (r : Found) : Type 0 where
+  pub told : r ≡ toldRoute (routeRow b sx sy gx gy before)
+  pub after-is : after ≡ slicesAfter (problem b sx sy gx gy) (r .number) before
+
+-- a board read for C: what it gets, and what the board slice holds before and after
+pub record ReadForC (job before : List ℕ) (r : Sides) (after : List ℕ) : Type 0 where
+  pub told : r ≡ toldBoard (boardRow job (length before))
+  pub after-is : after ≡ boardAfter job before

@@ -1,0 +1,12 @@
+pub mod Corners
+pub mod Axis
+pub mod Sides
+pub mod Crossing
+pub mod First
+pub mod Points
+pub mod Seen
+pub mod UnitEdges
+pub mod Nearest
+pub mod Symmetric
+pub mod Neighbours
+pub mod Visible

@@ -1,0 +1,73 @@
+-- Sight between neighbours in closed form: a diagonal step needs its one cell free, a step along an axis one of two. Assumes nothing.
+use Prim.Native.Nat.{ℕ, _+_, _≤_, _<_, min}
+use mathlib.Core.Path.{_≡_, sym, _∙_}
+use mathlib.Core.Logic.{⊎-elim}
+use mathlib.Core.Bool.{Bool, true, false, not, _&&_}
+use native.Mathlib.Omega.{arith}
+use borrow.Author.Tests.{leb-true, eq-eqb}
+use lib.Dec.{leb, eqb}
+use Rattle.laws.specs.Below.{every}
+use Rattle.laws.proofs.Tests.{order, and-left, and-right, not-both}
+use Rattle.board.specs.Board.{Board, blocked}
+use Rattle.legs.specs.Sight.{crossed, rowWall, columnWall, sees}
+use Rattle.legs.specs.Leg.{far, cellAt}
+use Rattle.legs.specs.Stops.{walled}
+use Rattle.legs.specs.Neighbours.{nextTo, neighbours}
+use Rattle.legs.specs.Inner.{EndsOn}
+use Rattle.legs.proofs.Axis.{cell-up, cell-down}
+use Rattle.legs.proofs.Crossing.{cross-in}
+use Rattle.legs.proofs.Seen.{sees-clear, edges-every, cells-every, level-stop, upright-stop, slanted-stop}
+
+-- one step along an axis, by its cell
+step-cell : (a b : ℕ) → far a b ≡ 1 → cellAt a b 0 ≡ min a b
+step-cell a b e =
+    ⊎-elim (λ (l : a < b). omega (arith, cell-up a b 0 l)) (λ (g : b ≤ a). omega (arith, cell-down a b 0 g)) (order a b)
+
+module _ (b : Board) (ax ay bx by : ℕ) (on : EndsOn b ax ay bx by) where
+  pub level-step : ay ≡ by → far ax bx ≡ 1 → sees b ax ay bx by ≡ not (rowWall b (min ax bx) ay)
+  unfolding every walled
+  level-step e f =
+      sees-clear b ax ay bx by on
+      ∙ rw (level-stop b ax ay bx by e) (edges-every b true ay ax bx ∙ rw (f, step-cell ax bx f))
+
+  pub upright-step : ax ≡ bx → far ay by ≡ 1 → sees b ax ay bx by ≡ not (columnWall b ax (min ay by))
+  unfolding every walled
+  upright-step e f =
+      sees-clear b ax ay bx by on
+      ∙ rw (upright-stop b ax ay bx by (λ h. omega arith) e) (edges-every b false ax ay by ∙ rw (f, step-cell ay by f))
+
+  pub diagonal-step : far ax bx ≡ 1 → far ay by ≡ 1 → sees b ax ay bx by ≡ not (blocked b (min ax bx) (min ay by))
+  unfolding every
+  diagonal-step e f =
+      let x : crossed ax ay bx by (cellAt ax bx 0) (cellAt ay by 0) ≡ true =
+      cross-in ax ay bx by 0 0 (omega arith) (omega arith) (omega arith, omega arith) in
+      sees-clear b ax ay bx by on
+      ∙ rw (slanted-stop b ax ay bx by (λ h. omega arith) (λ h. omega arith))
+      (cells-every b ax ay bx by ∙ rw (e, f, x, step-cell ax bx e, step-cell ay by f))
+
+  -- and so from the answer for the one cell of a diagonal step
+  pub diagonal-read : {r : Bool} {x y : ℕ} → r ≡ blocked b x y → x ≡ min ax bx → y ≡ min ay by → far ax bx ≡ 1 → far ay by ≡ 1 → not r ≡ sees b ax ay bx by
+  diagonal-read g h k e f = rw (g, h, k) (sym (diagonal-step e f))
+
+-- neighbours differ by at most 1 each way, and by 1 in some way
+module _ (ax ay bx by : ℕ) (h : neighbours ax ay bx by ≡ true) where
+  neighbours-parts : (not (eqb ax bx && eqb ay by) ≡ true) × (nextTo ax bx ≡ true) × (nextTo ay by ≡ true)
+  unfolding neighbours
+  neighbours-parts =
+      let p : Bool = not (eqb ax bx && eqb ay by) in
+      let q : Bool = nextTo ax bx && nextTo ay by in
+      let r = and-right p q h in
+      (and-left p q h, and-left (nextTo ax bx) (nextTo ay by) r, and-right (nextTo ax bx) (nextTo ay by) r)
+
+  pub neighbours-near : (far ax bx ≤ 1) × (far ay by ≤ 1)
+  neighbours-near = let (n, x, y) = neighbours-parts in (next-far ax bx x, next-far ay by y)
+    where
+      next-far : (a b : ℕ) → nextTo a b ≡ true → far a b ≤ 1
+      next-far a b e =
+          let p : Bool = leb a (b + 1) in
+          let q : Bool = leb b (a + 1) in
+          omega (arith, leb-true a (b + 1) (and-left p q e), leb-true b (a + 1) (and-right p q e))
+
+  pub neighbours-differ : ax ≡ bx → ay ≡ by → ⊥
+  neighbours-differ e f =
+      not-both (eqb ax bx) (eqb ay by) (neighbours-parts .0) (eq-eqb ax bx e) (eq-eqb ay by f)

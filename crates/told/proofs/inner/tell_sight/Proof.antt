@@ -1,0 +1,35 @@
+-- `told::inner::tell_sight` hands each answer on as its row says.
+use mathlib.Core.Path.{refl}
+use borrow.Author.Needs.{needs}
+use Rattle.sight.specs.Answers.{unseen, handedSight}
+use Rattle.told.specs.Told.{toldSight}
+use Rattle.told.proofs.Told.{told-as, told-refused, refusal-is}
+use Rattle.told.proofs.inner.tell_sight.Statement.{statement}
+use Rattle.told.proofs.inner.tell_sight.Tie as tie
+
+returns : tie.Need-returns
+returns c = told-as handedSight toldSight (c .enum-told .given .1) refl
+
+returns-2 : tie.Need-returns-2
+returns-2 c = told-as handedSight toldSight (c .enum-told2 .given .1) refl
+
+returns-3 : tie.Need-returns-3
+returns-3 c =
+    let p = c .before in
+    let n = p .before in
+    let g = n .before .before .answer .given in
+    told-refused handedSight toldSight unseen (g .1) refl (refusal-is (g .0 .0) (n .number .ensures) (p .place .ensures)) (c .refuse-sight .ensures)
+
+pub tell-sight-spec : {M : Type 1} → statement M
+tell-sight-spec =
+    tie.close
+    (tie.spec
+    (λ c. search needs)
+    (λ c. search needs)
+    (λ c. search needs)
+    (λ c κs. search needs)
+    (λ c κs. search needs)
+    (λ c κs. search needs)
+    returns
+    returns-2
+    returns-3)

@@ -1,0 +1,247 @@
+// Calls for the crate above: what C gets of each answer that a call gives.
+ghost use mathlib.Core.Path.{_≡_};
+ghost use Prim.Native.Nat.{_^_, _<_};
+ghost use Rattle.board.specs.Handed.{refused, judged};
+ghost use Rattle.length.specs.Answers.{noLength, noDirection, handedLength, handedDirection};
+ghost use Rattle.sight.specs.Answers.{unseen, handedSight};
+ghost use Rattle.router.specs.Answers.{noRoute, handedRoute};
+ghost use Rattle.job.specs.Answers.{noSides, noNet, handedBoard, handedNet};
+ghost use Rattle.told.specs.Told.{toldSight, toldLength, toldDirection, toldRoute, toldBoard, toldNet};
+use crate::Found;
+use crate::Long;
+use crate::Net;
+use crate::Seen;
+use crate::Sides;
+use crate::Toward;
+use job::BoardAnswer;
+use job::NetAnswer;
+use length::Aimed;
+use length::Measured;
+use length::inner::exact_cells;
+use sight::Answer;
+
+// What C gets of an answer on sight.
+pub fn tell_sight(answer: Answer) -> Seen
+    ensures { λ r. ⌜ r ≡ toldSight (handedSight answer) ⌝ }
+{
+    match answer {
+        Answer::Yes => Seen {
+            number: 0,
+            place: 0,
+            second: 0,
+            sight: 1,
+        },
+        Answer::No => Seen {
+            number: 0,
+            place: 0,
+            second: 0,
+            sight: 0,
+        },
+        Answer::Refused(why) => refuse_sight(why.number(), why.place() as u64),
+    }
+}
+
+fn refuse_sight(number: u64, place: u64) -> Seen
+    ensures { λ r. ⌜ r ≡ toldSight (judged unseen (refused number place 0)) ⌝ }
+{
+    Seen {
+        number,
+        place,
+        second: 0,
+        sight: 0,
+    }
+}
+
+// What C gets of a length; the cast of its units loses nothing.
+pub fn tell_length(measured: Measured) -> Long
+    requires { ⌜ handedLength measured .values .units < 2 ^ 53 ⌝ }
+    ensures { λ r. ⌜ r ≡ toldLength (handedLength measured) ⌝ }
+{
+    match measured {
+        Measured::Of(l) => Long {
+            number: 0,
+            place: 0,
+            second: 0,
+            units: l.units,
+            cells: exact_cells(l.units),
+        },
+        Measured::Refused(why) => refuse_length(why.number(), why.place() as u64),
+    }
+}
+
+fn refuse_length(number: u64, place: u64) -> Long
+    ensures { λ r. ⌜ r ≡ toldLength (judged noLength (refused number place 0)) ⌝ }
+{
+    Long {
+        number,
+        place,
+        second: 0,
+        units: 0,
+        cells: exact_cells(0),
+    }
+}
+
+// What C gets of a direction.
+pub fn tell_direction(aimed: Aimed) -> Toward
+    ensures { λ r. ⌜ r ≡ toldDirection (handedDirection aimed) ⌝ }
+{
+    match aimed {
+        Aimed::Of(d) => Toward {
+            number: 0,
+            place: 0,
+            second: 0,
+            x: d.x,
+            y: d.y,
+        },
+        Aimed::Refused(why) => refuse_direction(why.number(), why.place() as u64),
+        Aimed::Equal => refuse_direction(9, 0),
+    }
+}
+
+fn refuse_direction(number: u64, place: u64) -> Toward
+    ensures { λ r. ⌜ r ≡ toldDirection (judged noDirection (refused number place 0)) ⌝ }
+{
+    Toward {
+        number,
+        place,
+        second: 0,
+        x: 0.0,
+        y: 0.0,
+    }
+}
+
+fn refuse_route(number: u64, place: u64) -> Found
+    ensures { λ r. ⌜ r ≡ toldRoute (judged noRoute (refused number place 0)) ⌝ }
+{
+    Found {
+        number,
+        place,
+        second: 0,
+        cells: 0.0,
+        units: 0,
+        vertices: 0,
+        expansions: 0,
+        tests: 0,
+    }
+}
+
+// What C gets of a route.
+pub fn tell_route(answer: router::Answer) -> Found
+    ensures { λ r. ⌜ r ≡ toldRoute (handedRoute answer) ⌝ }
+{
+    match answer {
+        router::Answer::Found {
+            cells,
+            units,
+            vertices,
+            expansions,
+            tests,
+        } => Found {
+            number: 0,
+            place: 0,
+            second: 0,
+            cells,
+            units,
+            vertices: vertices as u64,
+            expansions,
+            tests,
+        },
+        router::Answer::NoPath { expansions, tests } => Found {
+            number: 8,
+            place: 0,
+            second: 0,
+            cells: 0.0,
+            units: 0,
+            vertices: 0,
+            expansions,
+            tests,
+        },
+        router::Answer::Refused(why) => refuse_route(why.number(), why.place() as u64),
+        router::Answer::Work => refuse_route(6, 0),
+        router::Answer::Short(needed) => refuse_route(7, needed as u64),
+    }
+}
+
+fn refuse_board(number: u64, place: u64, second: u64) -> Sides
+    ensures { λ r. ⌜ r ≡ toldBoard (judged noSides (refused number place second)) ⌝ }
+{
+    Sides {
+        number,
+        place,
+        second,
+        width: 0,
+        height: 0,
+        nets: 0,
+    }
+}
+
+// What C gets of a board read.
+pub fn tell_board(answer: BoardAnswer) -> Sides
+    ensures { λ r. ⌜ r ≡ toldBoard (handedBoard answer) ⌝ }
+{
+    match answer {
+        BoardAnswer::Board {
+            width,
+            height,
+            nets,
+        } => Sides {
+            number: 0,
+            place: 0,
+            second: 0,
+            width: width as u64,
+            height: height as u64,
+            nets: nets as u64,
+        },
+        BoardAnswer::Refused(why) => refuse_board(
+            why.number(),
+            why.place() as u64,
+            why.second() as u64,
+        ),
+        BoardAnswer::Short => refuse_board(19, 0, 0),
+    }
+}
+
+fn refuse_net(number: u64, place: u64, second: u64) -> Net
+    ensures { λ r. ⌜ r ≡ toldNet (judged noNet (refused number place second)) ⌝ }
+{
+    Net {
+        number,
+        place,
+        second,
+        net: 0,
+        sx: 0,
+        sy: 0,
+        gx: 0,
+        gy: 0,
+    }
+}
+
+// What C gets of a net read.
+pub fn tell_net(answer: NetAnswer) -> Net
+    ensures { λ r. ⌜ r ≡ toldNet (handedNet answer) ⌝ }
+{
+    match answer {
+        NetAnswer::Net {
+            number,
+            sx,
+            sy,
+            gx,
+            gy,
+        } => Net {
+            number: 0,
+            place: 0,
+            second: 0,
+            net: number as u64,
+            sx: sx as u64,
+            sy: sy as u64,
+            gx: gx as u64,
+            gy: gy as u64,
+        },
+        NetAnswer::Refused(why) => refuse_net(
+            why.number(),
+            why.place() as u64,
+            why.second() as u64,
+        ),
+        NetAnswer::NoNet => refuse_net(20, 0, 0),
+    }
+}

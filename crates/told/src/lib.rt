@@ -1,0 +1,68 @@
+// What C gets of each answer, as include/wexxolin.h declares it.
+pub mod inner;
+
+// Does a leg have sight: 1 or 0.
+#[repr(C)]
+pub struct Seen {
+    pub number: u64,
+    pub place: u64,
+    pub second: u64,
+    pub sight: u64,
+}
+
+// The length of a leg, in units and in cells.
+#[repr(C)]
+pub struct Long {
+    pub number: u64,
+    pub place: u64,
+    pub second: u64,
+    pub units: u64,
+    pub cells: f64,
+}
+
+// The direction of a leg.
+#[repr(C)]
+pub struct Toward {
+    pub number: u64,
+    pub place: u64,
+    pub second: u64,
+    pub x: f64,
+    pub y: f64,
+}
+
+// A route.
+#[repr(C)]
+pub struct Found {
+    pub number: u64,
+    pub place: u64,
+    pub second: u64,
+    pub cells: f64,
+    pub units: u64,
+    pub vertices: u64,
+    pub expansions: u64,
+    pub tests: u64,
+}
+
+// A job's board.
+#[repr(C)]
+pub struct Sides {
+    pub number: u64,
+    pub place: u64,
+    pub second: u64,
+    pub width: u64,
+    pub height: u64,
+    pub nets: u64,
+}
+
+// A job's net.
+#[repr(C)]
+pub struct Net {
+    pub number: u64,
+    pub place: u64,
+    pub second: u64,
+    pub net: u64,
+    pub sx: u64,
+    pub sy: u64,
+    pub gx: u64,
+    pub gy: u64,
+}

@@ -1,0 +1,4 @@
+pub mod Ranks
+pub mod Contest
+pub mod Tournament
+pub mod Nodes

@@ -1,0 +1,3 @@
+// A tournament of vertices: each node has the open vertex under it that is taken first.
+pub mod order;
+pub mod tree;

@@ -1,0 +1,103 @@
+// The nodes of the tournament: each has the open vertex under it that is taken first, and its f. The nodes 2 i and 2 i + 1 are below i.
+ghost use mathlib.Core.Path.{_≡_};
+ghost use Prim.Native.Nat.{_+_, _-_, _*_, _/_, _^_, _<_};
+ghost use lib.ListN.{length};
+ghost use Rattle.reach.specs.Turns.{at};
+ghost use Rattle.theta.specs.Order.{ranked};
+ghost use Rattle.tournament.specs.Nodes.{Room, Seated, Won, Entered, Renewed};
+ghost use Rattle.tournament.specs.Ranks.{numbers, seen};
+use crate::order::ahead;
+use board::Vertex;
+
+// The key of a node under which no vertex is open.
+pub const NO_KEY: u64 = 0xffff_ffff_ffff_ffff;
+
+// A vertex and its f; or any vertex, and no key.
+pub struct Leader {
+    pub vertex: usize,
+    pub f: u64,
+}
+
+// Of two leaders, the one that is taken first.
+fn winner(a: Leader, b: Leader, g: &[u64]) -> Leader
+    requires { ⌜ (a .vertex < length (now g)) × (b .vertex < length (now g)) ⌝ }
+    ensures { λ r. ⌜ Won (seen (now (g .entry))) (a .vertex) (a .f) (b .vertex) (b .f) (r .vertex) (r .f) ⌝ }
+{
+    let w = b.vertex;
+    if b.f <= a.f {
+        if ahead(b.f, g[w], w, a.f, a.vertex, g) {
+            return b;
+        }
+    }
+    a
+}
+
+// The other node below the node above i.
+fn sibling(i: usize) -> usize
+    requires { ⌜ (1 < i) × (i < 2 ^ 60) ⌝ }
+    ensures { λ r. ⌜ r ≡ i / 2 * 4 + 1 - i ⌝ }
+{
+    i ^ 1
+}
+
+// The vertex v of the leaf, with this f and g, opens, or was open with a larger f: it climbs while it is ahead.
+pub fn enter(
+    leaf: usize,
+    v: usize,
+    own: u64,
+    f: u64,
+    g: &[u64],
+    leads: &mut [Vertex],
+    keys: &mut [u64],
+)
+    requires { ⌜ Room leaf (now leads) (now keys) ⌝ }
+    requires { ⌜ Seated (numbers (now g)) (now leads) ⌝ }
+    requires { ⌜ v < numbers (now g) ⌝ }
+    ensures { λ r. ⌜ Entered (seen (now (g .entry))) (numbers (now (g .entry))) leaf (ranked f own v) (now (leads .entry)) (now (keys .entry)) (now (leads .exit)) (now (keys .exit)) ⌝ }
+{
+    let mut i = leaf;
+    while 0 < i {
+        let key = keys[i];
+        if !ahead(f, own, v, key, leads[i] as usize, g) {
+            return;
+        }
+        leads[i] = v as Vertex;
+        keys[i] = f;
+        i = i / 2;
+    }
+}
+
+// The leaf has this leader now, and each node above it the sooner of its two.
+pub fn renew(leaf: usize, leader: Leader, g: &[u64], leads: &mut [Vertex], keys: &mut [u64])
+    requires { ⌜ Room leaf (now leads) (now keys) ⌝ }
+    requires { ⌜ Seated (numbers (now g)) (now leads) ⌝ }
+    requires { ⌜ leader .vertex < numbers (now g) ⌝ }
+    ensures { λ r. ⌜ Renewed (seen (now (g .entry))) (numbers (now (g .entry))) leaf (leader .vertex) (leader .f) (now (leads .entry)) (now (keys .entry)) (now (leads .exit)) (now (keys .exit)) ⌝ }
+{
+    let mut i = leaf;
+    leads[i] = leader.vertex as Vertex;
+    keys[i] = leader.f;
+    let mut first = leader;
+    while 1 < i {
+        let s = sibling(i);
+        let beside = Leader {
+            vertex: leads[s] as usize,
+            f: keys[s],
+        };
+        first = winner(first, beside, g);
+        i = i / 2;
+        leads[i] = first.vertex as Vertex;
+        keys[i] = first.f;
+    }
+}
+
+// The leader of all.
+pub fn first(leads: &[Vertex], keys: &[u64]) -> Leader
+    requires { ⌜ Room 1 (now leads) (now keys) ⌝ }
+    ensures { λ r. ⌜ (r .vertex ≡ at (now (leads .entry)) 1) × (r .f ≡ at (now (keys .entry)) 1) ⌝ }
+{
+    Leader {
+        vertex: leads[1] as usize,
+        f: keys[1],
+    }
+}

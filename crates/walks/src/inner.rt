@@ -1,0 +1,95 @@
+// Calls for the crates above, which have checked their board: each says what it requires.
+ghost use mathlib.Core.Path.{_≡_};
+ghost use mathlib.Core.Bool.{true};
+ghost use Rattle.board.specs.Board.{board};
+ghost use Rattle.board.specs.Inner.{Sound};
+ghost use Rattle.legs.specs.Sight.{sees};
+ghost use Rattle.legs.specs.Stops.{firstStop};
+ghost use Rattle.legs.specs.Neighbours.{neighbours};
+ghost use Rattle.legs.specs.Inner.{EndsOn};
+use crate::edges::open_edges;
+use crate::edges::stop_after;
+use crate::leg;
+use crate::walk::first_blocked;
+use crate::walls::is_column_wall;
+use crate::walls::is_row_wall;
+use board::inner::is_cell_blocked;
+use legs::Stop;
+
+// What stops the leg first, counted from its first end. For users who ask what is in the way (document 02, item 2).
+pub fn first_stop(
+    cells: &[u8],
+    width: usize,
+    height: usize,
+    ax: usize,
+    ay: usize,
+    bx: usize,
+    by: usize,
+) -> Stop
+    requires { ⌜ Sound (board (now cells) width height) ⌝ }
+    requires { ⌜ EndsOn (board (now cells) width height) ax ay bx by ⌝ }
+    ensures { λ r. ⌜ r ≡ firstStop (board (now (cells .entry)) width height) ax ay bx by ⌝ }
+{
+    if ay == by {
+        let steps = open_edges(cells, width, height, true, ay, ax, bx);
+        return stop_after(true, ay, ax, bx, steps);
+    }
+    if ax == bx {
+        let steps = open_edges(cells, width, height, false, ax, ay, by);
+        return stop_after(false, ax, ay, by, steps);
+    }
+    let index = first_blocked(cells, width, height, ax, ay, bx, by);
+    if index == cells.len() {
+        return Stop::Clear;
+    }
+    Stop::Cell(index % width, index / width)
+}
+
+// Whether the leg from (ax, ay) to (bx, by) has sight.
+pub fn sees(
+    cells: &[u8],
+    width: usize,
+    height: usize,
+    ax: usize,
+    ay: usize,
+    bx: usize,
+    by: usize,
+) -> bool
+    requires { ⌜ Sound (board (now cells) width height) ⌝ }
+    requires { ⌜ EndsOn (board (now cells) width height) ax ay bx by ⌝ }
+    ensures { λ r. ⌜ r ≡ sees (board (now (cells .entry)) width height) ax ay bx by ⌝ }
+{
+    if ay == by {
+        return open_edges(cells, width, height, true, ay, ax, bx) == leg::distance(ax, bx);
+    }
+    if ax == bx {
+        return open_edges(cells, width, height, false, ax, ay, by) == leg::distance(ay, by);
+    }
+    first_blocked(cells, width, height, ax, ay, bx, by) == cells.len()
+}
+
+// The same for neighbours, by the one cell between them or the two beside them.
+pub fn sees_neighbour(
+    cells: &[u8],
+    width: usize,
+    height: usize,
+    ax: usize,
+    ay: usize,
+    bx: usize,
+    by: usize,
+) -> bool
+    requires { ⌜ Sound (board (now cells) width height) ⌝ }
+    requires { ⌜ EndsOn (board (now cells) width height) ax ay bx by ⌝ }
+    requires { ⌜ neighbours ax ay bx by ≡ true ⌝ }
+    ensures { λ r. ⌜ r ≡ sees (board (now (cells .entry)) width height) ax ay bx by ⌝ }
+{
+    let x = leg::lesser(ax, bx);
+    let y = leg::lesser(ay, by);
+    if ay == by {
+        return !is_row_wall(cells, width, height, x, ay);
+    }
+    if ax == bx {
+        return !is_column_wall(cells, width, height, ax, y);
+    }
+    !is_cell_blocked(cells, width, height, x, y)
+}
