@@ -183,14 +183,43 @@ INLINE int walk(const uint8_t *a, const uint8_t *b, int dx, int dy)
     return 1;
 }
 
+/* The cell (x, y), outside included. */
+static int is_shut(const struct field *field, int x, int y) { return field->bytes[(y + 1) * LINE + x + 1] & BLOCKED; }
+
+/* The first stop of a leg that the walk found stopped, step by step from its first end. The search does not ask for it. */
+static void name_stop(const struct field *field, int ax, int ay, int bx, int by, struct wexxolin_sight *answer)
+{
+    int right = (bx > ax) - (bx < ax), down = (by > ay) - (by < ay), n = (bx - ax) * right, m = (by - ay) * down;
+    if (n && m) {
+        for (int u = 0; u < n; u++)
+            for (int v = m * u / n; v < m && n * v < m * (u + 1); v++) {
+                int x = right > 0 ? ax + u : ax - u - 1, y = down > 0 ? ay + v : ay - v - 1;
+                if (is_shut(field, x, y)) {
+                    answer->kind = WEXXOLIN_CELL, answer->x = (uint64_t)x, answer->y = (uint64_t)y;
+                    return;
+                }
+            }
+        return;
+    }
+    for (int x = ax, y = ay; x != bx || y != by; x += right, y += down)
+        if (is_shut(field, right < 0 ? x - 1 : x, down < 0 ? y - 1 : y) && is_shut(field, right > 0 ? x : x - 1, down > 0 ? y : y - 1)) {
+            answer->kind = WEXXOLIN_EDGE, answer->x = (uint64_t)x, answer->y = (uint64_t)y;
+            answer->x2 = (uint64_t)(x + right), answer->y2 = (uint64_t)(y + down);
+            return;
+        }
+}
+
 struct wexxolin_sight fast_sight(const uint8_t *cells, size_t cells_len, size_t width, size_t height,
                                  size_t ax, size_t ay, size_t bx, size_t by)
 {
-    struct wexxolin_sight answer = {0, 0, 0, 0};
+    struct wexxolin_sight answer = {0};
     struct field field;
     answer.number = refusal(&field, cells, cells_len, width, height, ax, ay, bx, by, &answer.place);
-    if (answer.number == 0)
+    if (answer.number == 0) {
         answer.sight = (uint64_t)walk(field.bytes + ay * LINE + ax, field.bytes + by * LINE + bx, (int)bx - (int)ax, (int)by - (int)ay);
+        if (answer.sight == 0)
+            name_stop(&field, (int)ax, (int)ay, (int)bx, (int)by, &answer);
+    }
     return answer;
 }
 

@@ -65,8 +65,13 @@ int main(void)
                direction.y);
     }
 
-    /* Could it go straight? The same question that the layout tool asks while a trace is dragged. */
+    /* Could it go straight? The same question that the layout tool asks while a trace is dragged; and what is in the way? */
     struct wexxolin_sight sight = wexxolin_sight(cells, sizeof cells, WIDTH, HEIGHT, from_x, from_y, to_x, to_y);
-    printf("the straight line from start to goal is %s\n", sight.sight ? "free" : "blocked");
+    printf("the straight line from start to goal is %s", sight.sight ? "free" : "blocked");
+    if (sight.kind == WEXXOLIN_CELL)
+        printf(" by the cell %u,%u", (unsigned)sight.x, (unsigned)sight.y);
+    if (sight.kind == WEXXOLIN_EDGE)
+        printf(" by the edge from %u,%u to %u,%u", (unsigned)sight.x, (unsigned)sight.y, (unsigned)sight.x2, (unsigned)sight.y2);
+    printf("\n");
     return 0;
 }

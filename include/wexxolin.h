@@ -31,9 +31,16 @@ extern "C" {
 /* A vertex number as the slices hold it: y * (width + 1) + x. */
 typedef uint16_t wexxolin_vertex;
 
-/* Does the leg from (ax, ay) to (bx, by) have sight? sight is 1 or 0. Refusals 1 to 5. */
+/* Does the leg from (ax, ay) to (bx, by) have sight? sight is 1 or 0. Where it is 0, kind and what follows name the first thing that
+   stops the leg, counted from (ax, ay): a blocked cell (x, y), or a unit edge with blocked cells on both sides, from (x, y) to
+   (x2, y2), the nearer vertex first. What names nothing is 0. Refusals 1 to 5. */
+enum wexxolin_stop {
+    WEXXOLIN_NOTHING = 0,
+    WEXXOLIN_CELL = 1,
+    WEXXOLIN_EDGE = 2
+};
 struct wexxolin_sight {
-    uint64_t number, place, second, sight;
+    uint64_t number, place, second, sight, kind, x, y, x2, y2;
 };
 struct wexxolin_sight wexxolin_sight(const uint8_t *cells, size_t cells_len, size_t width, size_t height,
                                      size_t ax, size_t ay, size_t bx, size_t by);

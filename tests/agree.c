@@ -250,31 +250,36 @@ static void check_sight(const struct leg_case *c, struct wexxolin_sight b, enum 
     request = c, tell_request = tell_leg;
     const uint8_t *cells = lend_bytes(&cells_room, c->cells, c->cells_len, flush);
     struct wexxolin_sight a = wexxolin_sight(cells, c->cells_len, c->width, c->height, c->ax, c->ay, c->bx, c->by);
-    count(3);
+    count(9);
     if (SAME_ANSWER(a, b))
         return;
     tell_number("number", a.number, b.number);
     tell_number("place", a.place, b.place);
     tell_number("second", a.second, b.second);
     tell_number("sight", a.sight, b.sight);
+    tell_number("kind", a.kind, b.kind);
+    tell_number("x", a.x, b.x);
+    tell_number("y", a.y, b.y);
+    tell_number("x2", a.x2, b.x2);
+    tell_number("y2", a.y2, b.y2);
     tell_leg(c);
     end_of_telling();
 }
 
-static uint64_t compare_sight(const struct leg_case *c)
+static struct wexxolin_sight compare_sight(const struct leg_case *c)
 {
     struct wexxolin_sight b = second_sight(c->cells, c->cells_len, c->width, c->height, c->ax, c->ay, c->bx, c->by);
     check_sight(c, b, AT_END);
     check_sight(c, b, AT_FRONT);
-    return b.sight;
+    return b;
 }
 
 static void compare_sight_both_ways(struct leg_case c)
 {
-    uint64_t there = compare_sight(&c);
+    uint64_t there = compare_sight(&c).sight;
     struct leg_case back = c;
     back.ax = c.bx, back.ay = c.by, back.bx = c.ax, back.by = c.ay;
-    if (compare_sight(&back) != there) {
+    if (compare_sight(&back).sight != there) {
         tell("sight from (%zu,%zu) to (%zu,%zu) is not the same the other way round", c.ax, c.ay, c.bx, c.by);
         tell_board(c.cells, c.cells_len, c.width, c.height);
         end_of_telling();
@@ -836,18 +841,28 @@ static void document_lengths(void)
     }
 }
 
+/* A leg on 2 by 2 cells, and what document 01 says of it; what stops it, by document 02's item 2. */
 static void document_sights(void)
 {
     static const struct {
         uint8_t cells[4];
         size_t ax, ay, bx, by;
-        uint64_t sight;
-    } rows[] = {{{0, 1, 0, 0}, 0, 0, 2, 1, 0}, {{0, 1, 0, 0}, 0, 0, 2, 2, 1}, {{0, 1, 0, 0}, 1, 0, 1, 1, 1},
-                {{0, 1, 0, 0}, 1, 0, 2, 0, 0}, {{0, 1, 1, 0}, 0, 0, 2, 2, 1}};
+        uint64_t sight, kind, x, y, x2, y2;
+    } rows[] = {{{0, 1, 0, 0}, 0, 0, 2, 1, 0, WEXXOLIN_CELL, 1, 0, 0, 0},    {{0, 1, 0, 0}, 2, 1, 0, 0, 0, WEXXOLIN_CELL, 1, 0, 0, 0},
+                {{0, 1, 0, 0}, 0, 0, 2, 2, 1, WEXXOLIN_NOTHING, 0, 0, 0, 0}, {{0, 1, 0, 0}, 1, 0, 1, 1, 1, WEXXOLIN_NOTHING, 0, 0, 0, 0},
+                {{0, 1, 0, 0}, 1, 0, 2, 0, 0, WEXXOLIN_EDGE, 1, 0, 2, 0},    {{0, 1, 0, 0}, 2, 0, 1, 0, 0, WEXXOLIN_EDGE, 2, 0, 1, 0},
+                {{0, 1, 0, 0}, 0, 0, 2, 0, 0, WEXXOLIN_EDGE, 1, 0, 2, 0},    {{0, 1, 0, 0}, 2, 1, 2, 0, 0, WEXXOLIN_EDGE, 2, 1, 2, 0},
+                {{0, 1, 1, 0}, 0, 0, 2, 2, 1, WEXXOLIN_NOTHING, 0, 0, 0, 0}};
     for (size_t i = 0; i < sizeof rows / sizeof *rows; i++) {
         struct leg_case c = {rows[i].cells, 4, 2, 2, rows[i].ax, rows[i].ay, rows[i].bx, rows[i].by};
         compare_sight_both_ways(c);
-        expect("sight", compare_sight(&c), rows[i].sight);
+        struct wexxolin_sight said = compare_sight(&c);
+        expect("sight", said.sight, rows[i].sight);
+        expect("kind", said.kind, rows[i].kind);
+        expect("x", said.x, rows[i].x);
+        expect("y", said.y, rows[i].y);
+        expect("x2", said.x2, rows[i].x2);
+        expect("y2", said.y2, rows[i].y2);
     }
 }
 

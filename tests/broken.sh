@@ -141,6 +141,14 @@ broken last-edge-unseen fast.c 's/(one \+= step;)/$1 if (one != end \&\& one + s
 broken outside-free fast_library.c 's/return fast_sight\((.*?)\);/struct wexxolin_sight a = fast_sight($1); if (a.number == 0 \&\& ((ay == by \&\& (ay == 0 || ay == height)) || (ax == bx \&\& (ax == 0 || ax == width)))) a.sight = 1; return a;/s'
 broken itself-unseen fast_library.c 's/return fast_sight\((.*?)\);/struct wexxolin_sight a = fast_sight($1); if (ax == bx \&\& ay == by) a.sight = 0; return a;/s'
 broken sampled fast_library.c 's/return fast_sight\((.*?)\);/struct wexxolin_sight a = fast_sight($1); if (a.number || ax == bx || ay == by) return a; a.sight = 1; for (int k = 0; k < 1000; k++) { double t = (k + 0.5) \/ 1000, x = ax + t * ((double)bx - (double)ax), y = ay + t * ((double)by - (double)ay); if (cells[(size_t)y * width + (size_t)x] \&\& x != (size_t)x \&\& y != (size_t)y) a.sight = 0; } return a;/s'
+broken stop-farther-first fast.c 's/answer->x = \(uint64_t\)x, answer->y = \(uint64_t\)y;\n( *)answer->x2 = \(uint64_t\)\(x \+ right\), answer->y2 = \(uint64_t\)\(y \+ down\);/answer->x2 = (uint64_t)x, answer->y2 = (uint64_t)y;\n$1answer->x = (uint64_t)(x + right), answer->y = (uint64_t)(y + down);/'
+broken stop-last-edge fast.c 's/(answer->y2 = \(uint64_t\)\(y \+ down\);)\n *return;/$1/'
+broken stop-edge-as-cell fast.c 's/kind = WEXXOLIN_EDGE/kind = WEXXOLIN_CELL/'
+broken stop-last-cell fast.c 's/(WEXXOLIN_CELL, .*?;)\n *return;/$1/'
+broken stop-column-backwards fast.c 's/for \(int v = m \* u \/ n; v < m && n \* v < m \* \(u \+ 1\); v\+\+\)/for (int v = (m * (u + 1) + n - 1) \/ n - 1; v >= 0 \&\& n * (v + 1) > m * u; v--)/'
+broken stop-touched-cell fast.c 's/n \* v < m \* \(u \+ 1\)/n * v <= m * (u + 1)/'
+broken stop-cell-turned fast.c 's/WEXXOLIN_CELL, answer->x = \(uint64_t\)x, answer->y = \(uint64_t\)y/WEXXOLIN_CELL, answer->x = (uint64_t)y, answer->y = (uint64_t)x/'
+broken stop-from-second-end fast.c 's/name_stop\(&field, \(int\)ax, \(int\)ay, \(int\)bx, \(int\)by, &answer\)/name_stop(\&field, (int)bx, (int)by, (int)ax, (int)ay, \&answer)/'
 
 # refusals 1 to 6
 broken side-64 fast.c 's/width - 1 > LARGEST_SIDE - 1/width - 1 > LARGEST_SIDE/'

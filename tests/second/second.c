@@ -1,4 +1,4 @@
-/* The second router. Every comment in quotation marks is document 01's own wording. */
+/* The second router. Every comment in quotation marks is the wording of document 01, or of 02's items 2 and 3. */
 #include "second.h"
 
 #include <stdarg.h>
@@ -127,6 +127,66 @@ static int has_blocked_edge(const struct board *board, struct point a, struct po
 static int has_sight(const struct board *board, struct point a, struct point b)
 {
     return !crosses_blocked_cell(board, a, b) && !has_blocked_edge(board, a, b);
+}
+
+/* ---------- what stops a leg ---------- */
+
+/* How far along a leg something lies, "counted from the leg's first end": part of whole, whole above 0. */
+struct share {
+    int part, whole;
+};
+
+static int is_nearer(struct share s, struct share t) { return s.part * t.whole < t.part * s.whole; }
+
+/* Where a leg that goes from a to b in one coordinate, a not b, comes to what lies between k and k + 1. */
+static struct share come_to(int a, int b, int k)
+{
+    struct share up = {k - a, b - a}, down = {a - (k + 1), a - b};
+    return a < b ? up : down;
+}
+
+struct stop {
+    enum wexxolin_stop kind;
+    struct point first, second;
+    struct share where;
+};
+
+/* "It names the first such thing": a new one takes the place of a farther one. */
+static void meet(struct stop *stop, struct stop met)
+{
+    if (stop->kind == WEXXOLIN_NOTHING || is_nearer(met.where, stop->where))
+        *stop = met;
+}
+
+/* "stopped by a cell": the leg is in it when it is between its columns and between its rows */
+static void meet_cells(const struct board *board, struct point a, struct point b, struct stop *stop)
+{
+    for (int j = 0; j < board->height; j++)
+        for (int i = 0; i < board->width; i++)
+            if (is_blocked(board, i, j) && crosses(a, b, i, j)) {
+                struct share x = come_to(a.x, b.x, i), y = come_to(a.y, b.y, j);
+                struct stop met = {WEXXOLIN_CELL, {i, j}, {0, 0}, is_nearer(x, y) ? y : x};
+                meet(stop, met);
+            }
+}
+
+/* "stopped by an edge with its two vertices, nearer first" */
+static void meet_edges(const struct board *board, struct point a, struct point b, struct stop *stop)
+{
+    if (a.y == b.y)
+        for (int x = min(a.x, b.x); x < max(a.x, b.x); x++)
+            if (is_blocked(board, x, a.y - 1) && is_blocked(board, x, a.y)) {
+                int nearer = a.x < b.x ? x : x + 1, farther = a.x < b.x ? x + 1 : x;
+                struct stop met = {WEXXOLIN_EDGE, {nearer, a.y}, {farther, a.y}, come_to(a.x, b.x, x)};
+                meet(stop, met);
+            }
+    if (a.x == b.x)
+        for (int y = min(a.y, b.y); y < max(a.y, b.y); y++)
+            if (is_blocked(board, a.x - 1, y) && is_blocked(board, a.x, y)) {
+                int nearer = a.y < b.y ? y : y + 1, farther = a.y < b.y ? y + 1 : y;
+                struct stop met = {WEXXOLIN_EDGE, {a.x, nearer}, {a.x, farther}, come_to(a.y, b.y, y)};
+                meet(stop, met);
+            }
 }
 
 /* ---------- length and direction ---------- */
@@ -266,7 +326,13 @@ struct wexxolin_sight second_sight(const uint8_t *cells, size_t cells_len, size_
     if (refusal.number == 0) {
         struct board board = {cells, (int)width, (int)height};
         struct point a = {(int)ax, (int)ay}, b = {(int)bx, (int)by};
+        struct stop stop = {WEXXOLIN_NOTHING, {0, 0}, {0, 0}, {0, 1}};
         answer.sight = has_sight(&board, a, b) ? 1 : 0;
+        meet_cells(&board, a, b, &stop);
+        meet_edges(&board, a, b, &stop);
+        answer.kind = stop.kind;
+        answer.x = (uint64_t)stop.first.x, answer.y = (uint64_t)stop.first.y;
+        answer.x2 = (uint64_t)stop.second.x, answer.y2 = (uint64_t)stop.second.y;
     }
     return answer;
 }

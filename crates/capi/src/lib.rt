@@ -27,7 +27,7 @@ use told::inner::tell_net;
 use told::inner::tell_route;
 use told::inner::tell_sight;
 
-// Whether the leg from (ax, ay) to (bx, by) has sight.
+// What stops the leg from (ax, ay) to (bx, by) first.
 #[no_mangle]
 pub extern "C" fn wexxolin_sight(
     cells: &[u8],

@@ -256,6 +256,13 @@ module _ (b : Board) (ax ay bx by : ℕ) where
       (λ (n : ay ≡ by → ⊥). ⊎-elim (λ (e : ax ≡ bx). upright-none n e (sym (upright-stop b ax ay bx by n e) ∙ d))
       (λ (m : ax ≡ bx → ⊥). slanted-none n m (sym (slanted-stop b ax ay bx by n m) ∙ d)) (same-or-not ax bx)) (same-or-not ay by)
 
+  -- and where nothing blocks it there is none
+  pub unblocked-clear : ((t : Stop) → Blocks b ax ay bx by t → ⊥) → firstStop b ax ay bx by ≡ Clear
+  unblocked-clear none =
+      let stop = firstStop b ax ay bx by in
+      ⊎-elim (λ (c : isClear stop ≡ true). clear-is stop c)
+      (λ (c : isClear stop ≡ false). absurd (none stop (stop-first stop refl c .blocks))) (bool-cases (isClear stop))
+
   -- what blocks a leg has a point of it
   pub blocks-met : (t : Stop) → Blocks b ax ay bx by t → (p : Point) × Meets ax ay bx by p t
   blocks-met _ (cell {i} {j} x w) = crossed-met ax ay bx by i j x
@@ -283,6 +290,9 @@ module _ (b : Board) (ax ay bx by : ℕ) where
   module _ (on : EndsOn b ax ay bx by) where
     pub sees-unblocked : sees b ax ay bx by ≡ true → (t : Stop) → Blocks b ax ay bx by t → ⊥
     sees-unblocked h = clear-unblocked (clear-is (firstStop b ax ay bx by) (sym (sees-clear b ax ay bx by on) ∙ h))
+
+    pub unblocked-sees : ((t : Stop) → Blocks b ax ay bx by t → ⊥) → sees b ax ay bx by ≡ true
+    unblocked-sees none = sees-clear b ax ay bx by on ∙ ap isClear (unblocked-clear none)
 
     pub unseen-blocked : sees b ax ay bx by ≡ false → StopsFirst b ax ay bx by (firstStop b ax ay bx by)
     unseen-blocked h = stop-first (firstStop b ax ay bx by) refl (sym (sees-clear b ax ay bx by on) ∙ h)

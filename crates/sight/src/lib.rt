@@ -1,20 +1,35 @@
 // Line of sight between two vertices of a board.
 ghost use mathlib.Core.Path.{_≡_};
 ghost use Rattle.board.specs.Board.{board};
-ghost use Rattle.sight.specs.Answers.{handedSight, sightRow};
+ghost use Rattle.board.specs.Handed.{answer};
+ghost use Rattle.sight.specs.Answers.{valuesOf, handedSight, sightRow};
 use board::Checked;
 use board::Refusal;
 use board::check_leg;
-use walks::inner::sees;
+use legs::Stop;
+use walks::inner::first_stop;
 
-// The answer to a sight request (document 01's 0), or why there is none (1 to 5).
+// The answer to a sight request (document 01's 0): the leg is clear, or the first thing in its way, as `Stop` has it; or why
+// there is none (1 to 5).
 pub enum Answer {
-    Yes,
-    No,
+    Clear,
+    Cell(usize, usize),
+    Edge(usize, usize, usize, usize),
     Refused(Refusal),
 }
 
-// Whether the leg from (ax, ay) to (bx, by) has sight, for any board and any two vertices.
+// The answer that names this stop.
+fn named(stop: Stop) -> Answer
+    ensures { λ r. ⌜ handedSight r ≡ answer (valuesOf stop) ⌝ }
+{
+    match stop {
+        Stop::Clear => Answer::Clear,
+        Stop::Cell(x, y) => Answer::Cell(x, y),
+        Stop::Edge(x, y, x2, y2) => Answer::Edge(x, y, x2, y2),
+    }
+}
+
+// What stops the leg from (ax, ay) to (bx, by) first, counted from (ax, ay), for any board and any two vertices.
 pub fn sight(
     cells: &[u8],
     width: usize,
@@ -28,12 +43,6 @@ pub fn sight(
 {
     match check_leg(cells, width, height, ax, ay, bx, by) {
         Checked::Refused(why) => Answer::Refused(why),
-        Checked::Accepted => {
-            if sees(cells, width, height, ax, ay, bx, by) {
-                Answer::Yes
-            } else {
-                Answer::No
-            }
-        }
+        Checked::Accepted => named(first_stop(cells, width, height, ax, ay, bx, by)),
     }
 }

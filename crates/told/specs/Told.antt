@@ -14,7 +14,19 @@ use Rattle.told.specs.declared.Sides.{Sides}
 use Rattle.told.specs.declared.Net.{Net}
 
 abbrev pub toldSight : Handed sight-call.Seen → Seen
-toldSight h = record { number = h .number; place = h .place; second = h .second; sight = h .values .sight }
+toldSight h =
+    let v = h .values in
+    record {
+      number = h .number;
+      place = h .place;
+      second = h .second;
+      sight = v .sight;
+      kind = v .kind;
+      x = v .x;
+      y = v .y;
+      x2 = v .x2;
+      y2 = v .y2;
+    }
 
 abbrev pub toldLength : Handed length-calls.Long → Long
 toldLength h = record { number = h .number; place = h .place; second = h .second; units = h .values .units; cells = inCells (h .values .units) }

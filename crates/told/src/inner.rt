@@ -1,9 +1,9 @@
 // Calls for the crate above: what C gets of each answer that a call gives.
 ghost use mathlib.Core.Path.{_≡_};
 ghost use Prim.Native.Nat.{_^_, _<_};
-ghost use Rattle.board.specs.Handed.{refused, judged};
+ghost use Rattle.board.specs.Handed.{answer, refused, judged};
 ghost use Rattle.length.specs.Answers.{noLength, noDirection, handedLength, handedDirection};
-ghost use Rattle.sight.specs.Answers.{unseen, handedSight};
+ghost use Rattle.sight.specs.Answers.{seenAs, unseen, handedSight};
 ghost use Rattle.router.specs.Answers.{noRoute, handedRoute};
 ghost use Rattle.job.specs.Answers.{noSides, noNet, handedBoard, handedNet};
 ghost use Rattle.told.specs.Told.{toldSight, toldLength, toldDirection, toldRoute, toldBoard, toldNet};
@@ -25,19 +25,27 @@ pub fn tell_sight(answer: Answer) -> Seen
     ensures { λ r. ⌜ r ≡ toldSight (handedSight answer) ⌝ }
 {
     match answer {
-        Answer::Yes => Seen {
-            number: 0,
-            place: 0,
-            second: 0,
-            sight: 1,
-        },
-        Answer::No => Seen {
-            number: 0,
-            place: 0,
-            second: 0,
-            sight: 0,
-        },
+        Answer::Clear => tell_seen(1, 0, 0, 0, 0, 0),
+        Answer::Cell(x, y) => tell_seen(0, 1, x as u64, y as u64, 0, 0),
+        Answer::Edge(x, y, x2, y2) => tell_seen(0, 2, x as u64, y as u64, x2 as u64, y2 as u64),
         Answer::Refused(why) => refuse_sight(why.number(), why.place() as u64),
+    }
+}
+
+// What C gets of an accepted request.
+fn tell_seen(sight: u64, kind: u64, x: u64, y: u64, x2: u64, y2: u64) -> Seen
+    ensures { λ r. ⌜ r ≡ toldSight (answer (seenAs sight kind x y x2 y2)) ⌝ }
+{
+    Seen {
+        number: 0,
+        place: 0,
+        second: 0,
+        sight,
+        kind,
+        x,
+        y,
+        x2,
+        y2,
     }
 }
 
@@ -49,6 +57,11 @@ fn refuse_sight(number: u64, place: u64) -> Seen
         place,
         second: 0,
         sight: 0,
+        kind: 0,
+        x: 0,
+        y: 0,
+        x2: 0,
+        y2: 0,
     }
 }
 

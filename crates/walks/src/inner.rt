@@ -16,7 +16,7 @@ use crate::walls::is_row_wall;
 use board::inner::is_cell_blocked;
 use legs::Stop;
 
-// What stops the leg first, counted from its first end. For users who ask what is in the way (document 02, item 2).
+// What stops the leg first, counted from its first end.
 pub fn first_stop(
     cells: &[u8],
     width: usize,

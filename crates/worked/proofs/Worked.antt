@@ -8,6 +8,9 @@ use Rattle.length.specs.Root.{root, rootIn}
 use Rattle.length.specs.Units.{unitsOf}
 use Rattle.legs.specs.Sight.{side, positive, negative, someCorner, spans, crossed, cellsFree, rowWall, columnWall, between, edgesOpen, sees}
 use Rattle.legs.specs.Neighbours.{neighbours, visible}
+use Rattle.legs.specs.Leg.{vertexAt, cellAt}
+use Rattle.legs.specs.Stops.{firstOf, cellStop, columnStop, cellsStop, walled, edgeFrom, edgeStop, edgesStop, firstStop}
+use Rattle.sight.specs.Answers.{sightRow}
 use Rattle.reach.specs.Turns.{turns}
 use Rattle.theta.specs.Order.{sooner, least}
 use Rattle.theta.specs.Search.{initial, choose, wins, around, close, expand, search, trail, path}
@@ -21,8 +24,9 @@ use Rattle.worked.specs.Table.{AllHold, table, corner, enough}
 
 pub worked : AllHold table
 unfolding unitsOf root rootIn blocked side positive negative someCorner spans crossed every cellsFree rowWall columnWall between edgesOpen sees
-    neighbours visible turns initial sooner least choose wins around close expand search trail problem firstBad boardRows endRows workRow searchRow routeRow
-worked = (refl, (refl, (refl, (refl, (refl, (refl, (refl, (refl, (refl, (refl, (refl, (refl, tt))))))))))))
+    vertexAt cellAt firstOf cellStop columnStop cellsStop walled edgeFrom edgeStop edgesStop firstStop sightRow neighbours visible turns initial sooner least choose wins around close expand search trail problem firstBad boardRows endRows workRow searchRow routeRow
+worked =
+    (refl, (refl, (refl, (refl, (refl, (refl, (refl, (refl, (refl, (refl, (refl, (refl, (refl, (refl, (refl, (refl, tt))))))))))))))))
 
 -- net 1 of the example job: 3 expanded, 10 tests, by (1, 1)
 pub net-1 : (routeRow corner 0 0 2 1 enough ≡ found 2531486 3 3 10)

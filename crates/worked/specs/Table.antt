@@ -1,4 +1,4 @@
--- Document 01's worked rows that are marked proved: one table.
+-- Document 01's worked rows that are marked proved, and what stops a leg on their boards (document 02, item 2): one table.
 use Prim.Native.Nat.{ℕ}
 use mathlib.Core.Path.{_≡_}
 use mathlib.Core.Bool.{Bool, true, false}
@@ -7,15 +7,19 @@ use lib.IntN.{ℤ, pos, negsuc}
 use lib.ListN.{replicate}
 use Rattle.board.specs.Limits.{mostVertices}
 use Rattle.board.specs.Board.{Board, board}
-use Rattle.board.specs.Handed.{Handed}
+use Rattle.board.specs.Handed.{Handed, answer}
 use Rattle.length.specs.Units.{units}
+use Rattle.legs.specs.declared.Stop.{Stop}
+use Rattle.legs.specs.declared.Stop.the-variants.{Clear, Cell, Edge}
 use Rattle.legs.specs.Sight.{sees}
+use Rattle.sight.specs.Answers.{valuesOf, sightRow}
 use Rattle.router.specs.Answers.{Route, Slices, slices, routeRow, found, none}
 
 -- a question and its answer
 pub data Row : Type 0 where
   lengthOf : (dx dy : ℤ) → (answer : ℕ) → Row
   sightOf : (b : Board) → (ax ay bx by : ℕ) → (answer : Bool) → Row
+  stopOf : (b : Board) → (ax ay bx by : ℕ) → (answer : Stop) → Row
   routeOf : (b : Board) → (sx sy gx gy : ℕ) → (answer : Handed Route) → Row
 
 -- lent slices with an entry for each vertex of the largest board
@@ -26,6 +30,7 @@ enough = let l : List ℕ = replicate mostVertices 0 in slices l l l l
 abbrev pub Holds : Row → Type 0
 Holds (lengthOf dx dy answer) = units dx dy ≡ answer
 Holds (sightOf b ax ay bx by answer) = sees b ax ay bx by ≡ answer
+Holds (stopOf b ax ay bx by first) = sightRow b ax ay bx by ≡ answer (valuesOf first)
 Holds (routeOf b sx sy gx gy answer) = routeRow b sx sy gx gy enough ≡ answer
 
 abbrev pub AllHold : List Row → Type 0
@@ -58,6 +63,10 @@ table =
     ∷ sightOf corner 0 0 2 2 true
     ∷ sightOf corner 1 0 1 1 true
     ∷ sightOf corner 1 0 2 0 false
+    ∷ stopOf corner 0 0 2 1 (Cell 1 0)
+    ∷ stopOf corner 0 0 2 2 Clear
+    ∷ stopOf corner 1 0 2 0 (Edge 1 0 2 0)
+    ∷ stopOf corner 2 0 0 0 (Edge 2 0 1 0)
     ∷ routeOf free 0 0 1 1 (found 1482910 2 1 3)
     ∷ routeOf full 0 0 1 1 (none 1 0)
     ∷ routeOf full 0 0 0 0 (found 0 1 0 0)

@@ -25,15 +25,28 @@ fn length_row(question: &[u8], dx: i32, dy: i32) {
     }
 }
 
-// One row on sight, of a board of 2 by 2 cells.
+// A point, or a cell by its first corner.
+fn place(x: usize, y: usize) {
+    numbers(b" ", x as u64, b",", y as u64);
+}
+
+// One row on sight, of a board of 2 by 2 cells: yes, or no and what stops the leg first.
 fn sight_row(question: &[u8], cells: &[u8], ax: usize, ay: usize, bx: usize, by: usize) {
     io::write_all(1, question);
     match sight(cells, 2, 2, ax, ay, bx, by) {
-        Answer::Yes => {
+        Answer::Clear => {
             io::write_all(1, b"yes\n");
         }
-        Answer::No => {
-            io::write_all(1, b"no\n");
+        Answer::Cell(x, y) => {
+            io::write_all(1, b"no, the cell");
+            place(x, y);
+            io::write_all(1, b"\n");
+        }
+        Answer::Edge(x, y, x2, y2) => {
+            io::write_all(1, b"no, the edge");
+            place(x, y);
+            place(x2, y2);
+            io::write_all(1, b"\n");
         }
         Answer::Refused(why) => refused(why.number()),
     }
@@ -160,6 +173,7 @@ fn main() {
     sight_row(b"sight (0,0)-(2,2): ", &corner, 0, 0, 2, 2);
     sight_row(b"sight (1,0)-(1,1): ", &corner, 1, 0, 1, 1);
     sight_row(b"sight (1,0)-(2,0): ", &corner, 1, 0, 2, 0);
+    sight_row(b"sight (2,0)-(0,0): ", &corner, 2, 0, 0, 0);
     let gap = [0u8, 1, 1, 0];
     sight_row(b"sight (0,0)-(2,2), a diagonal gap: ", &gap, 0, 0, 2, 2);
     route_rows();

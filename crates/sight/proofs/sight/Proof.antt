@@ -1,14 +1,11 @@
--- `sight::sight` answers by the rows 1 to 5, and then by the definition of sight.
-use mathlib.Core.Path.{_≡_, sym, _∙_}
-use mathlib.Core.Bool.{Bool, true, false}
+-- `sight::sight` answers by the rows 1 to 5, and then by what stops the leg first.
+use mathlib.Core.Path.{_≡_, _∙_}
 use borrow.Author.Needs.{needs}
 use denote.Ref.{now}
-use Rattle.laws.specs.Below.{asNumber}
 use Rattle.board.specs.Board.{Board, board}
-use Rattle.board.specs.Handed.{answer, passes, legRows}
+use Rattle.board.specs.Handed.{passes, legRows}
 use Rattle.board.proofs.Rows.{leg-sound, leg-first, leg-second}
-use Rattle.sight.specs.Answers.{sightRow}
-use Rattle.sight.proofs.Answering.{refusal-row, rows-pass, seen-row}
+use Rattle.sight.proofs.Answering.{refusal-row, rows-pass, stopped-as}
 use Rattle.sight.proofs.sight.Statement.{statement}
 use Rattle.sight.proofs.sight.Tie as tie
 
@@ -45,34 +42,24 @@ accepted c =
     let a = begun k .args in
     rows-pass (asked k) (a .ax) (a .ay) (a .bx) (a .by) (k .check-leg .result) (k .check-leg .ensures) (c .enum-told .given .1)
 
-sees-requires : tie.Need-sees-requires
-sees-requires c κs =
+-- the board is sound, and either end is on it
+first-stop-requires : tie.Need-first-stop-requires
+first-stop-requires c κs =
     let k = c .before .before in
     let a = begun k .args in
-    let e = accepted c in (
-      leg-sound (asked k) (a .ax) (a .ay) (a .bx) (a .by) e,
-      record {
-        first = leg-first (asked k) (a .ax) (a .ay) (a .bx) (a .by) e;
-        second = leg-second (asked k) (a .ax) (a .ay) (a .bx) (a .by) e;
-      },
-    )
+    let e = accepted c in
+    let sound = leg-sound (asked k) (a .ax) (a .ay) (a .bx) (a .by) e in
+    let first = leg-first (asked k) (a .ax) (a .ay) (a .bx) (a .by) e in
+    let second = leg-second (asked k) (a .ax) (a .ay) (a .bx) (a .by) e in
+    search (sound, first, second)
 
--- what `sees` says is the row's value
-answers : (c : tie.After-sees) (seen : Bool) → c .sees .result ≡ seen →
-    let k = c .before .before .before in
-    let a = begun k .args in
-    answer (record { sight = asNumber seen }) ≡ sightRow (asked k) (a .ax) (a .ay) (a .bx) (a .by)
-answers c seen e =
-    let k = c .before .before .before in
-    let a = begun k .args in
-    seen-row (asked k) (a .ax) (a .ay) (a .bx) (a .by) (k .check-leg .result) (k .check-leg .ensures) (c .before .enum-told .given .1) seen
-    (rw (← e) (c .sees .ensures))
-
+-- what the walk stopped at is the row's value
 returns-2 : tie.Need-returns-2
-returns-2 c = answers (c .before) true (c .if1 .taken)
-
-returns-3 : tie.Need-returns-3
-returns-3 c = answers (c .before) false (c .if1 .left)
+returns-2 c =
+    let w = c .before in
+    let k = w .before .before .before in
+    let a = begun k .args in
+    c .named .ensures ∙ stopped-as (asked k) (a .ax) (a .ay) (a .bx) (a .by) (accepted (w .before)) (w .first-stop .ensures)
 
 pub sight-spec : {M : Type 1} → statement M
 sight-spec =
@@ -81,7 +68,7 @@ sight-spec =
     check-leg-requires
     enum-known-why
     enum-told
-    sees-requires
+    first-stop-requires
+    (λ c κs. search needs)
     returns
-    returns-2
-    returns-3)
+    returns-2)
