@@ -1,5 +1,5 @@
 /* The functions of include/wexxolin.h by the fast router: what the harness and the measurements are tried on, and the
-   other column of the measurements. Its job reader is written apart from the second router's. */
+   other column of the measurements. Its job reader and its packer are written apart from the second ones. */
 #include "fast.h"
 
 #include <string.h>
@@ -143,4 +143,81 @@ struct wexxolin_net wexxolin_net(const uint8_t *bytes, size_t length, size_t ind
         return (struct wexxolin_net){job.number, job.place, job.second, 0, 0, 0, 0, 0};
     const uint8_t *r = bytes + 8 * (job.first_net + index);
     return (struct wexxolin_net){0, 0, 0, r[1], r[2], r[3], r[4], r[5]};
+}
+
+/* ---------- packed boards ---------- */
+
+/* One byte of bits, high bit first, and the eight bytes of its cells, as this machine has them in a word. */
+static uint64_t spread(uint8_t bits) { return bits * 0x8040201008040201u >> 7 & 0x0101010101010101u; }
+static uint8_t gather(uint64_t cells) { return (uint8_t)(cells * 0x8040201008040201u >> 56); }
+
+static struct wexxolin_pack judge_packed(const uint8_t *packed, size_t packed_len, size_t width, size_t height)
+{
+    if (width - 1 > LARGEST_SIDE - 1 || height - 1 > LARGEST_SIDE - 1)
+        return (struct wexxolin_pack){1, 0, 0};
+    size_t row = (width + 7) / 8;
+    if (packed_len != row * height)
+        return (struct wexxolin_pack){29, 0, 0};
+    unsigned filling = (1u << (8 * row - width)) - 1;
+    for (size_t end = row; end <= packed_len; end += row)
+        if (packed[end - 1] & filling)
+            return (struct wexxolin_pack){30, end - 1, 0};
+    return (struct wexxolin_pack){0, 0, 0};
+}
+
+struct wexxolin_pack wexxolin_unpack(const uint8_t *packed, size_t packed_len, size_t width, size_t height,
+                                     uint8_t *cells, size_t cells_len)
+{
+    struct wexxolin_pack answer = judge_packed(packed, packed_len, width, height);
+    if (answer.number == 0 && cells_len < width * height)
+        answer.number = 19;
+    if (answer.number)
+        return answer;
+    for (size_t y = 0; y < height; y++, cells += width) {
+        size_t x = 0;
+        for (; x + 8 <= width; x += 8) {
+            uint64_t eight_cells = spread(*packed++);
+            memcpy(cells + x, &eight_cells, 8);
+        }
+        for (unsigned bits = x < width ? *packed++ : 0; x < width; x++, bits <<= 1)
+            cells[x] = bits >> 7 & 1;
+    }
+    return answer;
+}
+
+struct wexxolin_pack wexxolin_pack(const uint8_t *cells, size_t cells_len, size_t width, size_t height,
+                                   uint8_t *packed, size_t packed_len)
+{
+    if (width - 1 > LARGEST_SIDE - 1 || height - 1 > LARGEST_SIDE - 1)
+        return (struct wexxolin_pack){1, 0, 0};
+    if (cells_len != width * height)
+        return (struct wexxolin_pack){2, 0, 0};
+    for (size_t i = 0; i < cells_len; i++)
+        if (cells[i] > 1)
+            return (struct wexxolin_pack){3, i, 0};
+    if (packed_len < (width + 7) / 8 * height)
+        return (struct wexxolin_pack){21, 0, 0};
+    for (size_t y = 0; y < height; y++, cells += width) {
+        size_t x = 0;
+        for (; x + 8 <= width; x += 8) {
+            uint64_t eight_cells;
+            memcpy(&eight_cells, cells + x, 8);
+            *packed++ = gather(eight_cells);
+        }
+        unsigned bits = 0;
+        for (size_t left = x; left < width; left++)
+            bits |= (unsigned)cells[left] << (7 - left % 8);
+        if (x < width)
+            *packed++ = (uint8_t)bits;
+    }
+    return (struct wexxolin_pack){0, 0, 0};
+}
+
+struct wexxolin_count_packed wexxolin_count_packed(const uint8_t *packed, size_t packed_len, size_t width, size_t height)
+{
+    struct wexxolin_pack judged = judge_packed(packed, packed_len, width, height);
+    struct wexxolin_count_packed answer = {judged.number, judged.place, judged.second, 0};
+    for (size_t i = 0; judged.number == 0 && i < packed_len; i++)
+        answer.blocked += (uint64_t)__builtin_popcount(packed[i]);
+    return answer;
 }

@@ -1,4 +1,4 @@
-/* Wexxolin for C: line of sight, leg length and direction, the route search and the job reader, as proved.
+/* Wexxolin for C: line of sight, leg length and direction, the route search, the job reader and packed boards, as proved.
 
    Every call takes every input, and every struct begins with the number that it hands back, its place and its second place. A
    value is 0 where its row has none, so it is 0 with every refusal. The places are 0 but where it is said:
@@ -13,7 +13,9 @@
       7  path too short (place: vertices needed)         18  keepout after a net (place: record)
       8  no path (a result: both counts are given)       19  board slice shorter than the cells
       9  direction of a leg with equal ends              20  no net with that index
-     10  job longer than 8,192 bytes                     23  an unused byte of a record not 0 (place: record; second: byte)
+     10  job longer than 8,192 bytes                     21  output slice too short
+     23  an unused byte of a record not 0 (place: record; second: byte)
+     29  wrong number of packed bytes                    30  a filling bit set (place: the first such byte's index)
 
    Cells come row by row, a byte each: 0 free, 1 blocked. Vertices are cell corners, (0, 0) to (width, height); y grows downward.
    Slices are passed as a pointer and a number of elements, which must be there; a pointer may be NULL where that number is 0.
@@ -86,6 +88,26 @@ struct wexxolin_net {
     uint64_t number, place, second, net, sx, sy, gx, gy;
 };
 struct wexxolin_net wexxolin_net(const uint8_t *job, size_t job_len, size_t index);
+
+/* A packed board has one bit per cell, 1 blocked, high bit first, each row filled up to a whole byte with zero bits: (width + 7) / 8
+   bytes a row, height rows; 8 * 63 bytes always suffice. What wexxolin_unpack and wexxolin_pack hand back has no value. */
+struct wexxolin_pack {
+    uint64_t number, place, second;
+};
+
+/* Packed bytes into cells, which needs width * height bytes. Refusals 1, 29, 30 and 19, in this order. */
+struct wexxolin_pack wexxolin_unpack(const uint8_t *packed, size_t packed_len, size_t width, size_t height,
+                                     uint8_t *cells, size_t cells_len);
+
+/* Cells into packed bytes. Refusals 1, 2, 3 and 21. */
+struct wexxolin_pack wexxolin_pack(const uint8_t *cells, size_t cells_len, size_t width, size_t height,
+                                   uint8_t *packed, size_t packed_len);
+
+/* How many cells of packed bytes are blocked. Refusals 1, 29 and 30. */
+struct wexxolin_count_packed {
+    uint64_t number, place, second, blocked;
+};
+struct wexxolin_count_packed wexxolin_count_packed(const uint8_t *packed, size_t packed_len, size_t width, size_t height);
 
 #ifdef __cplusplus
 }

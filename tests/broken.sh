@@ -9,9 +9,10 @@ work=$OUT/broken
 rm -rf "$work"
 mkdir -p "$work/bench" "$work/include" "$work/tests/second"
 cp "$root/include/wexxolin.h" "$work/include"
-for part in tests/agree tests/far tests/stack tests/thrown tests/rooms tests/boards tests/second/second; do
+for part in tests/agree tests/far tests/packed tests/stack tests/thrown tests/rooms tests/boards tests/second/second; do
     $CC $FLAGS -c -o "$work/$(basename $part).o" "$root/$part.c"
 done
+$CC $FLAGS -c -o "$work/packer.o" "$root/tests/second/packed.c"
 $CC $FLAGS -o "$work/thrown" "$work/thrown.o" "$work/boards.o" "$work/second.o"
 # the stack of the fast router when it is whole, in KiB
 $CC $FLAGS -o "$work/stack" "$work/stack.o" "$work/rooms.o" "$work/boards.o" $LIBRARY
@@ -56,12 +57,13 @@ broken() {
     harness=${4:-agree}
     cp "$root/bench/fast.c" "$root/bench/fast.h" "$root/bench/fast_library.c" "$work/bench"
     change "$1" "$root/bench/$2" "$work/bench/$2" "$3"
-    with="$work/rooms.o $work/boards.o $work/second.o"
+    with="$work/rooms.o $work/boards.o $work/second.o $work/packer.o"
     $CC $FLAGS -w -o "$work/$harness" "$work/$harness.o" $with "$work/bench/fast.c" "$work/bench/fast_library.c"
     rm -f "$work/$1.hex"
     case $harness in
     agree) judge "$1" $RUN "$work/agree" 1 1 "$work/$1.hex" ;;
     far) judge "$1" $RUN "$work/far" 1 1 ;;
+    packed) judge "$1" $RUN "$work/packed" 1 1 ;;
     stack) judge "$1" $RUN "$work/stack" $fast_kib ;;
     esac
 }
@@ -213,6 +215,78 @@ broken job-written-alike fast_library.c 's/(    unsigned last = 0;)/    ((volati
 broken board-written-alike-behind fast_library.c 's/(    memset\(board, 0, count\);)/$1 ((volatile uint8_t *)board)[board_len] = board[board_len];/'
 broken board-read-with-19 fast_library.c 's/job\.number = 19;/job.number = 19, (void)((volatile uint8_t *)board)[count - 1];/'
 
+# packed boards: the bits and the rows
+broken packed-low-bit-first fast_library.c 's/= spread\(\*packed\+\+\)/= __builtin_bswap64(spread(*packed++))/' packed
+broken packed-low-bit-first-in-last fast_library.c 's/x\+\+, bits <<= 1\)\n(\s+)cells\[x\] = bits >> 7 & 1/x++, bits >>= 1)\n$1cells[x] = bits \& 1/' packed
+broken packed-written-low-bit-first fast_library.c 's/gather\(eight_cells\);/gather(__builtin_bswap64(eight_cells));/' packed
+broken packed-last-written-low fast_library.c 's/<< \(7 - left % 8\)/<< left % 8/' packed
+broken packed-rows-not-at-bytes fast_library.c 's/for \(size_t y = 0; y < height; y\+\+, cells \+= width\) \{.*?return answer;/for (size_t i = 0; i < width * height; i++) cells[i] = packed[i \/ 8] >> (7 - i % 8) \& 1;\n    return answer;/s' packed
+broken packed-columns-first fast_library.c 's/for \(size_t y = 0; y < height; y\+\+, cells \+= width\) \{.*?return answer;/for (size_t i = 0; i < width * height; i++) cells[i] = packed[i % height * ((width + 7) \/ 8) + i \/ height \/ 8] >> (7 - i \/ height % 8) \& 1;\n    return answer;/s' packed
+broken packed-free-and-blocked fast_library.c 's/cells\[x\] = bits >> 7 & 1/cells[x] = ~bits >> 7 \& 1/' packed
+broken packed-set-as-255 fast_library.c 's/>> 7 & 0x0101010101010101u/>> 7 \& 0x0101010101010101u) * 255/; s/return bits \* 0x8040/return (bits * 0x8040/' packed
+broken packed-row-a-byte-more fast_library.c 's/size_t row = \(width \+ 7\) \/ 8;/size_t row = width \/ 8 + 1;/' packed
+broken packed-row-a-byte-less fast_library.c 's/size_t row = \(width \+ 7\) \/ 8;/size_t row = width \/ 8 + (width < 8);/' packed
+broken packed-filling-of-ones fast_library.c 's/unsigned bits = 0;/unsigned bits = 0xffu >> width % 8;/' packed
+broken packed-filling-kept fast_library.c 's/\*packed\+\+ = \(uint8_t\)bits;/*packed = (uint8_t)(bits | (*packed \& 0xffu >> width % 8)), packed++;/' packed
+broken packed-last-left-out fast_library.c 's/(if \(x < width\))\n(\s+\*packed\+\+ = \(uint8_t\)bits;)/if (x < width \&\& bits)\n$2\n        else if (x < width)\n            packed++;/' packed
+
+# packed boards: what is refused
+broken packed-filling-unread fast_library.c 's/if \(packed\[end - 1\] & filling\)/if (0)/' packed
+broken packed-filling-lowest-unread fast_library.c 's/(unsigned filling = .*?);/$1 \& ~1u;/; s/(unsigned filling = )\((.*?)- 1 & ~1u;/$1((${2}- 1) \& ~1u;/' packed
+broken packed-filling-highest-unread fast_library.c 's/unsigned filling = (.*?);/unsigned filling = ($1) >> 1;/' packed
+broken packed-filling-first-row fast_library.c 's/size_t end = row; end <=/size_t end = 2 * row; end <=/' packed
+broken packed-filling-last-row fast_library.c 's/end <= packed_len; end/end < packed_len; end/' packed
+broken packed-filling-row-named fast_library.c 's/30, end - 1, 0/30, end \/ row - 1, 0/' packed
+broken packed-filling-place-lost fast_library.c 's/30, end - 1, 0/30, 0, 0/' packed
+broken packed-filling-last-named fast_library.c 's/size_t end = row; end <= packed_len; end \+= row/size_t end = packed_len; end > 0; end -= row/' packed
+broken packed-thirty-second-place fast_library.c 's/30, end - 1, 0/30, end - 1, end - 1/' packed
+broken packed-longer-accepted fast_library.c 's/packed_len != row \* height/packed_len < row * height/' packed
+broken packed-a-row-less-accepted fast_library.c 's/packed_len != row \* height/packed_len != row * height \&\& packed_len != row * (height - 1)/' packed
+broken packed-twenty-nine-as-two fast_library.c 's/\{29, 0, 0\}/{2, 0, 0}/' packed
+broken packed-thirty-before-29 fast_library.c 's/(    if \(packed_len != row \* height\)\n.*?;\n)(    unsigned filling.*?)(    return \(struct wexxolin_pack\)\{0, 0, 0\};)/$2$1$3/s' packed
+broken packed-twenty-nine-before-1 fast_library.c 's/(judge_packed\(.*?\n\{\n)(.*?)(    size_t row = .*?\n)(    if \(packed_len != .*?;\n)/$1$3$4$2/s' packed
+broken packed-side-64 fast_library.c 's/width - 1 > LARGEST_SIDE - 1/width - 1 > LARGEST_SIDE/' packed
+broken packed-side-0 fast_library.c 's/height - 1 > LARGEST_SIDE - 1/height > LARGEST_SIDE/' packed
+broken packed-nineteen-before-30 fast_library.c 's/    if \(answer\.number == 0 && cells_len < width \* height\)\n\s+answer\.number = 19;/    if (answer.number % 30 == 0 \&\& cells_len < width * height)\n        return (struct wexxolin_pack){19, 0, 0};/' packed
+broken packed-nineteen-exact fast_library.c 's/cells_len < width \* height/cells_len <= width * height/' packed
+broken packed-nineteen-of-packed fast_library.c 's/answer\.number == 0 && cells_len < width \* height/answer.number == 0 \&\& cells_len < packed_len/' packed
+broken packed-nineteen-as-21 fast_library.c 's/answer\.number = 19/answer.number = 21/' packed
+broken packed-writer-side-64 fast_library.c 's/(struct wexxolin_pack wexxolin_pack\(.*?height - 1 > )LARGEST_SIDE - 1/$1LARGEST_SIDE/s' packed
+broken packed-writer-two-before-1 fast_library.c 's/(struct wexxolin_pack wexxolin_pack\(.*?\n\{\n)(    if \(width - 1.*?;\n)(    if \(cells_len != .*?;\n)/$1$3$2/s' packed
+broken packed-writer-two-unread fast_library.c 's/if \(cells_len != width \* height\)/if (cells_len < width * height)/' packed
+broken packed-writer-three-above-2 fast_library.c 's/if \(cells\[i\] > 1\)/if (cells[i] > 2)/' packed
+broken packed-writer-three-place fast_library.c 's/\{3, i, 0\}/{3, i % width, 0}/' packed
+broken packed-writer-three-last fast_library.c 's/for \(size_t i = 0; i < cells_len; i\+\+\)\n(\s+if \(cells\[i\] > 1\))/for (size_t i = cells_len; i-- > 0;)\n$1/' packed
+broken packed-writer-21-before-3 fast_library.c 's/(    for \(size_t i = 0; i < cells_len; i\+\+\)\n.*?;\n)(    if \(packed_len < .*?;\n)/$2$1/s' packed
+broken packed-writer-21-exact fast_library.c 's/packed_len < \(width \+ 7\)/packed_len <= (width + 7)/' packed
+broken packed-writer-21-as-19 fast_library.c 's/\{21, 0, 0\}/{19, 0, 0}/' packed
+
+# packed boards: the count
+broken packed-count-without-30 fast_library.c 's/(struct wexxolin_pack judged = .*?;\n)/$1    if (judged.number == 30) judged = (struct wexxolin_pack){0, 0, 0};\n/' packed
+broken packed-count-without-29 fast_library.c 's/(struct wexxolin_pack judged = .*?;\n)/$1    if (judged.number == 29) judged = (struct wexxolin_pack){0, 0, 0};\n/' packed
+broken packed-count-of-bytes fast_library.c 's/__builtin_popcount\(packed\[i\]\)/(packed[i] != 0)/' packed
+broken packed-count-last-left-out fast_library.c 's/judged\.number == 0 && i < packed_len/judged.number == 0 \&\& i + 1 < packed_len/' packed
+broken packed-count-in-8-bits fast_library.c 's/answer\.blocked \+= (.*?);/answer.blocked = (uint8_t)(answer.blocked + $1);/' packed
+broken packed-count-of-free fast_library.c 's/(answer\.blocked \+= .*?;\n)(    return answer;)/$1    if (judged.number == 0) answer.blocked = width * height - answer.blocked;\n$2/' packed
+broken packed-count-with-refusal fast_library.c 's/judged\.number == 0 && i < packed_len/judged.number != 1 \&\& i < packed_len/' packed
+broken packed-count-place-lost fast_library.c 's/\{judged\.number, judged\.place, judged\.second, 0\}/{judged.number, 0, judged.second, 0}/' packed
+
+# packed boards: what is written, and what is touched
+broken packed-cells-beyond fast_library.c 's/x \+ 8 <= width; x \+= 8/x < width; x += 8/' packed
+broken packed-bytes-beyond fast_library.c 's/(\*packed\+\+ = \(uint8_t\)bits;\n    \}\n)/$1    if (packed_len > (width + 7) \/ 8 * height) *packed = 0;\n/' packed
+broken packed-written-with-30 fast_library.c 's/(    if \(answer\.number\)\n        return answer;)/    if (answer.number == 30 \&\& cells_len) cells[0] = 0;\n$1/' packed
+broken packed-written-with-19 fast_library.c 's/(    if \(answer\.number\)\n        return answer;)/    if (answer.number == 19 \&\& cells_len) cells[0] = packed[0] >> 7;\n$1/' packed
+broken packed-written-with-3 fast_library.c 's/(    for \(size_t i = 0; i < cells_len; i\+\+\)\n\s+if \(cells\[i\] > 1\))/    if (packed_len) packed[0] = 0;\n$1/' packed
+broken packed-written-with-21 fast_library.c 's/(    if \(packed_len < \(width \+ 7\))/    if (packed_len) packed[0] = 0;\n$1/' packed
+broken packed-read-behind fast_library.c 's/(    unsigned filling = )/    (void)((const volatile uint8_t *)packed)[packed_len];\n$1/' packed
+broken packed-read-before fast_library.c 's/(    unsigned filling = )/    (void)((const volatile uint8_t *)packed)[-1];\n$1/' packed
+broken packed-read-before-29 fast_library.c 's/(    if \(packed_len != row \* height\))/    (void)((const volatile uint8_t *)packed)[row * height - 1];\n$1/' packed
+broken packed-written-alike fast_library.c 's/(    unsigned filling = )/    ((volatile uint8_t *)packed)[0] = packed[0];\n$1/' packed
+broken packed-cells-alike-behind fast_library.c 's/(    for \(size_t y = 0; y < height; y\+\+, cells \+= width\))/    ((volatile uint8_t *)cells)[cells_len] = cells[cells_len];\n$1/' packed
+broken packed-cells-read-with-19 fast_library.c 's/answer\.number = 19;/answer.number = 19, (void)((volatile uint8_t *)cells)[width * height - 1];/' packed
+broken packed-writer-reads-behind fast_library.c 's/(    if \(packed_len < \(width \+ 7\))/    (void)((const volatile uint8_t *)cells)[cells_len];\n$1/' packed
+broken packed-writer-alike-behind fast_library.c 's/(        unsigned bits = 0;)/        ((volatile uint8_t *)packed)[packed_len] = packed[packed_len];\n$1/' packed
+
 # lengths and numbers cut to fewer bits
 broken cells-length-in-32-bits fast.c 's/cells_len != width/(uint32_t)cells_len != width/' far
 broken cells-length-in-16-bits fast.c 's/cells_len != width/(uint16_t)cells_len != width/' far
@@ -231,6 +305,13 @@ broken start-in-32-bits fast.c 's/ax > width/(uint32_t)ax > width/' far
 broken goal-signed fast.c 's/by > height/(int64_t)by > (int64_t)height/' far
 broken ends-in-63-bits fast_library.c 's/\(bx \| by\) > 63/(bx | by) << 1 > 126/' far
 broken far-end-cleared fast.c 's/(    struct slices to = )/    if (marks_len >> 32) marks[marks_len - 1] = 0;\n$1/' far
+broken packed-length-in-32-bits fast_library.c 's/packed_len != row/(uint32_t)packed_len != row/' far
+broken packed-cells-length-in-32-bits fast_library.c 's/(answer\.number == 0 && )cells_len </$1(uint32_t)cells_len </' far
+broken packed-writer-cells-in-16-bits fast_library.c 's/if \(cells_len != width/if ((uint16_t)cells_len != width/' far
+broken packed-slice-length-in-32-bits fast_library.c 's/packed_len < \(width/(uint32_t)packed_len < (width/' far
+broken packed-width-in-32-bits fast_library.c 's/width - 1 > LARGEST_SIDE - 1/(uint32_t)width - 1 > LARGEST_SIDE - 1/' far
+broken packed-height-in-8-bits fast_library.c 's/height - 1 > LARGEST_SIDE - 1/(uint8_t)(height - 1) > LARGEST_SIDE - 1/' far
+broken packed-far-end-cleared fast_library.c 's/(    for \(size_t y = 0; y < height; y\+\+, cells \+= width\))/    if (cells_len >> 32) cells[cells_len - 1] = 0;\n$1/' far
 
 # the stack
 broken stack-two-kib-more fast.c 's/(    struct slices to = )/    volatile uint8_t more[2048]; more[0] = 1;\n$1/' stack

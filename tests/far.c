@@ -7,6 +7,7 @@
    ends the run with 1. */
 #include "boards.h"
 #include "rooms.h"
+#include "second/packed.h"
 #include "second/second.h"
 
 #include <stdio.h>
@@ -56,7 +57,7 @@ struct slice {
     void *ours;
 };
 
-static struct slice cells, g, parents, marks, path, job, board;
+static struct slice cells, g, parents, marks, path, job, board, packed;
 
 static void open_slice(struct slice *slice, const char *name, size_t size)
 {
@@ -207,6 +208,62 @@ static void far_job(void)
     compare_net(thrown.length, index + far_numbers[below(NUMBERS)]);
 }
 
+/* ---------- packed boards ---------- */
+
+struct packed_case {
+    size_t width, height, cells_len, packed_len, lent;
+};
+
+static void tell_packed(const char *call, const struct packed_case *c)
+{
+    snprintf(request, sizeof request, "%s: width %zu, height %zu, %zu cells, %zu packed bytes, a slice of %zu lent", call, c->width,
+             c->height, c->cells_len, c->packed_len, c->lent);
+}
+
+static void compare_unpack(const struct packed_case *c)
+{
+    tell_packed("unpack", c);
+    const uint8_t *bytes = room_lend(&packed.room, c->packed_len, AT_FRONT);
+    uint8_t *lent = lend(&board, c->lent, 1);
+    struct wexxolin_pack a = wexxolin_unpack(bytes, c->packed_len, c->width, c->height, lent, c->lent);
+    struct wexxolin_pack b = second_unpack(bytes, c->packed_len, c->width, c->height, board.ours, c->lent);
+    compare(&a, &b, sizeof a);
+    compare_slice(&board);
+    struct wexxolin_count_packed ca = wexxolin_count_packed(bytes, c->packed_len, c->width, c->height);
+    struct wexxolin_count_packed cb = second_count_packed(bytes, c->packed_len, c->width, c->height);
+    compare(&ca, &cb, sizeof ca);
+}
+
+static void compare_pack(const struct packed_case *c)
+{
+    tell_packed("pack", c);
+    const uint8_t *bytes = room_lend(&cells.room, c->cells_len, AT_FRONT);
+    uint8_t *lent = lend(&board, c->lent, 1);
+    struct wexxolin_pack a = wexxolin_pack(bytes, c->cells_len, c->width, c->height, lent, c->lent);
+    struct wexxolin_pack b = second_pack(bytes, c->cells_len, c->width, c->height, board.ours, c->lent);
+    compare(&a, &b, sizeof a);
+    compare_slice(&board);
+}
+
+/* The slices far longer than needed, then the numbers far beyond. */
+static void far_packed(size_t width, size_t height)
+{
+    struct packed_case c = {width, height, width * height, (width + 7) / 8 * height, width * height};
+    board_scattered(&dice, cells.room.ours, width, height, 20);
+    second_pack(cells.room.ours, c.cells_len, width, height, packed.room.ours, FIRST);
+    stretch(&c.lent);
+    compare_unpack(&c);
+    compare_pack(&c);
+    c.cells_len += far_lengths[below(LENGTHS)];
+    c.packed_len += far_lengths[below(LENGTHS)];
+    compare_unpack(&c);
+    compare_pack(&c);
+    c = (struct packed_case){width, height, width * height, (width + 7) / 8 * height, width * height};
+    *(below(2) ? &c.width : &c.height) += far_numbers[below(NUMBERS)];
+    compare_unpack(&c);
+    compare_pack(&c);
+}
+
 /* ---------- all ---------- */
 
 int main(int argc, char **argv)
@@ -221,12 +278,14 @@ int main(int argc, char **argv)
     open_slice(&path, "path", sizeof(wexxolin_vertex));
     open_slice(&job, "job", 1);
     open_slice(&board, "board", 1);
+    open_slice(&packed, "packed", 1);
     rooms_watch(tell_fault);
     for (size_t k = 0; k < 2100 * scale; k++) {
         const size_t *size = sizes[k % (sizeof sizes / sizeof *sizes)];
         far_slices(good_case(size[0], size[1]));
         far_ends(good_case(size[0], size[1]));
         far_job();
+        far_packed(size[0], size[1]);
     }
     printf("%-34s %10llu calls compared\n", "far slices and numbers", (unsigned long long)calls);
     return 0;

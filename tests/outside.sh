@@ -4,7 +4,7 @@
 set -eu
 . "$(dirname "$0")/settings.sh"
 scale=${1:-1} seed=${2:-1}
-rooms=$OUT/rooms.o boards=$OUT/boards.o second=$OUT/second.o
+rooms=$OUT/rooms.o boards=$OUT/boards.o second=$OUT/second.o packer=$OUT/packer.o
 running=
 trap 'kill $running 2>/dev/null || true' EXIT
 
@@ -28,8 +28,10 @@ beside agree part agree "$root/tests/agree.c"
 part rooms "$root/tests/rooms.c"
 part boards "$root/tests/boards.c"
 part second "$root/tests/second/second.c"
+part packer "$root/tests/second/packed.c"
 build thrown "$root/tests/thrown.c" "$boards" "$second"
-build far "$root/tests/far.c" "$rooms" "$boards" "$second"
+build far "$root/tests/far.c" "$rooms" "$boards" "$second" "$packer"
+build packed "$root/tests/packed.c" "$rooms" "$boards" "$packer"
 build stack "$root/tests/stack.c" "$rooms" "$boards"
 build example "$root/examples/route.c"
 finish agree
@@ -40,6 +42,7 @@ beside thrown $RUN "$OUT/thrown" "$scale" "$seed" "$root/tests/run_route.sh"
 
 $RUN "$OUT/agree" "$scale" "$seed" "$OUT/agree-difference-others.hex" others
 $RUN "$OUT/far" "$scale" "$seed"
+$RUN "$OUT/packed" "$scale" "$seed"
 
 # the figure that the header states for its callers
 kib=$(sed -n 's/.* \([0-9][0-9]*\) KiB of stack.*/\1/p' "$root/include/wexxolin.h" | sort -n | tail -n 1)
@@ -58,4 +61,4 @@ finish thrown
 finish routes
 running=
 
-echo "$((passed + 5)) passed, 0 failed"
+echo "$((passed + 6)) passed, 0 failed"

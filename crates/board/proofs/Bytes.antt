@@ -8,7 +8,7 @@ use native.Mathlib.Nat.{zero-lt-suc}
 use native.Mathlib.Numerals.{add-one}
 use native.Mathlib.Omega.{arith}
 use lib.Dec.{ltb}
-use lib.ListN.{length, getD, drop}
+use lib.ListN.{length, getD, drop, List·getD-eq-default}
 use lib.Seq.{drop-cons, drop-length}
 use borrow.Author.Tests.{le-leb, lt-leb, le-ltb, lt-ltb}
 use Rattle.laws.proofs.Tests.{order, or-false}
@@ -58,6 +58,19 @@ bad-before (x ∷ l) zero h = ⊎-elim (λ (b : 1 < x). absurd (omega (arith, ba
 bad-before (x ∷ l) (suc j) h =
     ⊎-elim (λ (b : 1 < x). absurd (omega (arith, bad-first x l b)))
     (λ (s : x ≤ 1). bad-before l j (omega (arith, bad-next x l s))) (order 1 x)
+
+-- ---- no byte is bad exactly if each is 0 or 1
+
+pub all-bits : (l : List ℕ) → ((k : ℕ) → k < length l → getD l k 0 ≤ 1) → firstBad l ≡ length l
+all-bits l f =
+    ⊎-elim (λ (b : firstBad l < length l). absurd (omega (arith, bad-wrong l b, f (firstBad l) b)))
+    (λ (b : length l ≤ firstBad l). omega (arith, bad-le l)) (order (firstBad l) (length l))
+
+-- a place past the end reads as 0
+pub bits-all : (l : List ℕ) → length l ≤ firstBad l → (k : ℕ) → getD l k 0 ≤ 1
+bits-all l h k =
+    ⊎-elim (λ (b : k < length l). bad-before l k (omega arith))
+    (λ (b : length l ≤ k). omega (arith, List·getD-eq-default l 0 b)) (order k (length l))
 
 -- ---- whether some byte is bad
 

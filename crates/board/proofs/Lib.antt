@@ -3,3 +3,4 @@ pub mod Numbers
 pub mod Verdicts
 pub mod Rows
 pub mod Determined
+pub mod Telling

@@ -5,9 +5,11 @@ use Prim.Native.Nat.{ℕ}
 use Rattle.board.specs.Board.{Board}
 use Rattle.problem.specs.Problem.{problem}
 use Rattle.router.specs.Answers.{Slices, slicesAfter}
+use Rattle.board.specs.Handed.{Verdict}
+use Rattle.packing.specs.declared.Packing.{Packing}
 use Rattle.told.specs.declared.Found.{Found}
 use Rattle.told.specs.declared.Sides.{Sides}
-use Rattle.capi.specs.Calls.{RoutedForC, ReadForC}
+use Rattle.capi.specs.Calls.{RoutedForC, ReadForC, WroteForC}
 
 -- of `wexxolin_route`
 pub route-determined : {b : Board} {sx sy gx gy : ℕ} {before after₁ after₂ : Slices} {r s : Found}
@@ -20,3 +22,8 @@ route-determined {b} {sx} {sy} {gx} {gy} {before} R S =
 pub board-determined : {job before after₁ after₂ : List ℕ} {r s : Sides} → ReadForC job before r after₁ → ReadForC job before s after₂
     → (r ≡ s) × (after₁ ≡ after₂)
 board-determined R S = (R .told ∙ sym (S .told), R .after-is ∙ sym (S .after-is))
+
+-- of `wexxolin_unpack` and `wexxolin_pack`
+pub packing-determined : {rows : Verdict} {written before after₁ after₂ : List ℕ} {r s : Packing}
+    → WroteForC rows written before r after₁ → WroteForC rows written before s after₂ → (r ≡ s) × (after₁ ≡ after₂)
+packing-determined R S = (R .told ∙ sym (S .told), R .after-is ∙ sym (S .after-is))

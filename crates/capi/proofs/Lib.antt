@@ -1,2 +1,3 @@
 pub mod Routed
+mod Wrote
 pub mod Determined

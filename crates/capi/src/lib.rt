@@ -5,13 +5,23 @@ ghost use Rattle.length.specs.Answers.{lengthRow, lengthBetweenRow, directionRo
 ghost use Rattle.sight.specs.Answers.{sightRow};
 ghost use Rattle.router.specs.Answers.{slices};
 ghost use Rattle.job.specs.Answers.{netRow};
+ghost use Rattle.packed.specs.Answers.{countRow};
+ghost use Rattle.packing.specs.Packing.{toldCount};
 ghost use Rattle.told.specs.Told.{toldSight, toldLength, toldDirection, toldNet};
-ghost use Rattle.capi.specs.Calls.{RoutedForC, ReadForC};
+ghost use Rattle.capi.specs.Calls.{RoutedForC, ReadForC, UnpackedForC, PackedForC};
 use board::Vertex;
 use job::read_board;
 use job::read_net;
 use length::Direction;
 use length::Length;
+use packed::count_blocked;
+use packed::read_cells;
+use packed::write_packed;
+use packing::Counted;
+use packing::Packing;
+use packing::inner::tell_count;
+use packing::inner::tell_read;
+use packing::inner::tell_written;
 use router::route;
 use sight::sight;
 use told::Found;
@@ -121,4 +131,38 @@ pub extern "C" fn wexxolin_net(job: &[u8], index: usize) -> Net
     ensures { λ r. ⌜ r ≡ toldNet (netRow (now (job .entry)) index) ⌝ }
 {
     tell_net(read_net(job, index))
+}
+
+// Packed bytes into cells.
+#[no_mangle]
+pub extern "C" fn wexxolin_unpack(
+    packed: &[u8],
+    width: usize,
+    height: usize,
+    cells: &mut [u8],
+) -> Packing
+    ensures { λ r. ⌜ UnpackedForC (now (packed .entry)) width height (now (cells .entry)) r (now (cells .exit)) ⌝ }
+{
+    tell_read(read_cells(packed, width, height, cells))
+}
+
+// Cells into packed bytes.
+#[no_mangle]
+pub extern "C" fn wexxolin_pack(
+    cells: &[u8],
+    width: usize,
+    height: usize,
+    packed: &mut [u8],
+) -> Packing
+    ensures { λ r. ⌜ PackedForC (board (now (cells .entry)) width height) (now (packed .entry)) r (now (packed .exit)) ⌝ }
+{
+    tell_written(write_packed(cells, width, height, packed))
+}
+
+// How many cells of packed bytes are blocked.
+#[no_mangle]
+pub extern "C" fn wexxolin_count_packed(packed: &[u8], width: usize, height: usize) -> Counted
+    ensures { λ r. ⌜ r ≡ toldCount (countRow (now (packed .entry)) width height) ⌝ }
+{
+    tell_count(count_blocked(packed, width, height))
 }

@@ -231,6 +231,12 @@ unfolding howMany
 many-add t s r zero h = refl
 many-add t s r (suc n) h = omega (arith, h n (omega arith), many-add t s r n (λ i l. h i (omega arith)))
 
+-- the numbers below a + b are those below a, and b more
+pub many-split : (a b : ℕ) (t : ℕ → Bool) → howMany (a + b) t ≡ howMany a t + howMany b (λ (i : ℕ). t (a + i))
+unfolding howMany
+many-split a zero t = let e : a + 0 ≡ a = omega arith in rw e (omega arith)
+many-split a (suc b) t = let e : a + suc b ≡ suc (a + b) = omega arith in rw e (omega (arith, many-split a b t))
+
 -- ---- the one with an index: it passes, and as many as the index do before it
 
 module _ (t : ℕ → Bool) where

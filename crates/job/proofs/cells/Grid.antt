@@ -14,6 +14,7 @@ use Rattle.laws.proofs.Tests.{order, bool-cases, and-false}
 use Rattle.laws.proofs.Below.{some-none}
 use Rattle.board.specs.Limits.{largestSide}
 use Rattle.board.specs.Handed.{firstBad}
+use Rattle.board.proofs.Bytes.{all-bits}
 use Rattle.board.proofs.Rows.{side-least, cells-few}
 use Rattle.records.specs.Records.{records}
 use Rattle.job.specs.declared.BoardAnswer.the-variants.{Board, Short}
@@ -52,13 +53,7 @@ module _ (job : List ℕ) where
       (λ (e : inKeepout job (k % width job) (k / width job) ≡ false). rw e (omega arith))
       (bool-cases (inKeepout job (k % width job) (k / width job)))
 
--- a list of bits has no bad byte
-all-bits : (l : List ℕ) → ((k : ℕ) → k < length l → getD l k 0 ≤ 1) → firstBad l ≡ length l
-unfolding firstBad
-all-bits [] f = refl
-all-bits (x ∷ xs) f =
-    rw (le-leb x 1 (f 0 (omega arith))) (ap suc (all-bits xs (λ (k : ℕ) (l : k < length xs). f (suc k) (omega arith))))
-
+-- none of them is bad
 pub cells-bits : (job : List ℕ) → firstBad (boardCells job) ≡ length (boardCells job)
 cells-bits job = all-bits (boardCells job) (λ (k : ℕ) (l : k < length (boardCells job)). rw (cells-at job (width job * height job) k (omega (arith, cells-length job (width job * height job)))) (cell-bit job k))
 

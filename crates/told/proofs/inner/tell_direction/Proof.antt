@@ -3,7 +3,7 @@ use mathlib.Core.Path.{refl}
 use borrow.Author.Needs.{needs}
 use Rattle.length.specs.Answers.{noDirection, handedDirection}
 use Rattle.told.specs.Told.{toldDirection}
-use Rattle.told.proofs.Told.{told-as, told-refused, refusal-is}
+use Rattle.board.proofs.Telling.{told-as, told-refused, refusal-is}
 use Rattle.told.proofs.inner.tell_direction.Statement.{statement}
 use Rattle.told.proofs.inner.tell_direction.Tie as tie
 

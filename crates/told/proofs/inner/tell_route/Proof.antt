@@ -4,7 +4,7 @@ use lib.Ieee.{ofBits}
 use borrow.Author.Needs.{needs}
 use Rattle.router.specs.Answers.{noRoute, handedRoute}
 use Rattle.told.specs.Told.{toldRoute}
-use Rattle.told.proofs.Told.{told-as, told-refused, refusal-is}
+use Rattle.board.proofs.Telling.{told-as, told-refused, refusal-is}
 use Rattle.told.proofs.inner.tell_route.Statement.{statement}
 use Rattle.told.proofs.inner.tell_route.Tie as tie
 

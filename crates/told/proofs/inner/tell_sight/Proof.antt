@@ -3,7 +3,7 @@ use mathlib.Core.Path.{refl}
 use borrow.Author.Needs.{needs}
 use Rattle.sight.specs.Answers.{unseen, handedSight}
 use Rattle.told.specs.Told.{toldSight}
-use Rattle.told.proofs.Told.{told-as, told-refused, refusal-is}
+use Rattle.board.proofs.Telling.{told-as, told-refused, refusal-is}
 use Rattle.told.proofs.inner.tell_sight.Statement.{statement}
 use Rattle.told.proofs.inner.tell_sight.Tie as tie
 

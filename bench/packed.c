@@ -1,0 +1,44 @@
+/* Reads, writes or counts one packed board TIMES over, so that a counter outside can say what a call costs:
+
+       packed CALL WIDTH HEIGHT TIMES
+
+   CALL is unpack, pack or count. 30 in 100 of the board's cells are blocked. Prints how many calls were accepted and the sum of what
+   was counted. */
+#include "../include/wexxolin.h"
+#include "../tests/boards.h"
+
+#include <stdio.h>
+#include <stdlib.h>
+#include <string.h>
+
+static uint8_t cells[63 * 63], packed[8 * 63], out[63 * 63];
+
+int main(int argc, char **argv)
+{
+    if (argc != 5) {
+        fprintf(stderr, "usage: packed CALL WIDTH HEIGHT TIMES\n");
+        return 2;
+    }
+    size_t width = (size_t)atoi(argv[2]), height = (size_t)atoi(argv[3]), bytes = (width + 7) / 8 * height, count = width * height;
+    if (width < 1 || width > 63 || height < 1 || height > 63) {
+        fprintf(stderr, "packed: sides go from 1 to 63\n");
+        return 2;
+    }
+    struct dice dice = dice_of(1);
+    board_scattered(&dice, cells, width, height, 30);
+    wexxolin_pack(cells, count, width, height, packed, bytes);
+    unsigned long long accepted = 0, blocked = 0;
+    for (int k = 0; k < atoi(argv[4]); k++) {
+        if (strcmp(argv[1], "unpack") == 0)
+            accepted += wexxolin_unpack(packed, bytes, width, height, out, count).number == 0;
+        if (strcmp(argv[1], "pack") == 0)
+            accepted += wexxolin_pack(cells, count, width, height, out, bytes).number == 0;
+        if (strcmp(argv[1], "count") == 0) {
+            struct wexxolin_count_packed counted = wexxolin_count_packed(packed, bytes, width, height);
+            accepted += counted.number == 0;
+            blocked += counted.blocked;
+        }
+    }
+    printf("accepted %llu blocked %llu\n", accepted, blocked);
+    return 0;
+}
