@@ -322,9 +322,9 @@ broken_program program-without-last-newline lines.c 's/text\.length, stdout/text
 broken_program program-killed lines.c 's/return 0;/return text.length > 400 ? *(volatile int *)0 : 0;/'
 broken_program program-equal-nets second.c 's/r\[1\] <= job->last_net/r[1] < job->last_net/'
 broken_program program-keepout-after-net second.c 's/r\[0\] == TYPE_KEEPOUT && job->nets > 0/r[0] == TYPE_KEEPOUT \&\& job->nets > 1/'
-broken_program program-byte-7-unread second.c 's/return r\[6\] != 0 \|\| r\[7\] != 0;/return r[6] != 0;/'
+broken_program program-byte-7-unread second.c 's/byte = 1; byte < 8; byte\+\+/byte = 1; byte < 7; byte++/'
 broken_program program-goal-unjudged second.c 's/ \|\| r\[5\] > job->height;\n\}/;\n}/'
-broken_program program-refusals-exchanged second.c 's/(    if \(is_13.*?return 13;\n)(.*?return 12;\n)/$2$1/s'
+broken_program program-refusals-exchanged second.c 's/(    if \(is_13\(r\)\).*?return refuse\(13, record\);\n)(.*?return refuse\(12, record\);\n)/$2$1/s'
 
 echo "$found found, $unfound unfound"
 [ "$unfound" = 0 ]

@@ -131,62 +131,162 @@ static int has_sight(const struct board *board, struct point a, struct point b)
 
 /* ---------- what stops a leg ---------- */
 
-/* How far along a leg something lies, "counted from the leg's first end": part of whole, whole above 0. */
-struct share {
-    int part, whole;
-};
-
-static int is_nearer(struct share s, struct share t) { return s.part * t.whole < t.part * s.whole; }
-
-/* Where a leg that goes from a to b in one coordinate, a not b, comes to what lies between k and k + 1. */
-static struct share come_to(int a, int b, int k)
-{
-    struct share up = {k - a, b - a}, down = {a - (k + 1), a - b};
-    return a < b ? up : down;
-}
-
+/* "clear, or stopped by a cell, or stopped by an edge with its two vertices, nearer first". */
 struct stop {
     enum wexxolin_stop kind;
     struct point first, second;
-    struct share where;
 };
 
-/* "It names the first such thing": a new one takes the place of a farther one. */
-static void meet(struct stop *stop, struct stop met)
+/* The size of a difference. */
+static int size_of(int difference)
 {
-    if (stop->kind == WEXXOLIN_NOTHING || is_nearer(met.where, stop->where))
-        *stop = met;
+    return difference < 0 ? -difference : difference;
 }
 
-/* "stopped by a cell": the leg is in it when it is between its columns and between its rows */
-static void meet_cells(const struct board *board, struct point a, struct point b, struct stop *stop)
+/* "min(ax,bx)" */
+static int least_of(int one, int other)
 {
-    for (int j = 0; j < board->height; j++)
-        for (int i = 0; i < board->width; i++)
-            if (is_blocked(board, i, j) && crosses(a, b, i, j)) {
-                struct share x = come_to(a.x, b.x, i), y = come_to(a.y, b.y, j);
-                struct stop met = {WEXXOLIN_CELL, {i, j}, {0, 0}, is_nearer(x, y) ? y : x};
-                meet(stop, met);
-            }
+    return one < other ? one : other;
 }
 
-/* "stopped by an edge with its two vertices, nearer first" */
-static void meet_edges(const struct board *board, struct point a, struct point b, struct stop *stop)
+/* "max(ax,bx)" */
+static int greatest_of(int one, int other)
 {
-    if (a.y == b.y)
-        for (int x = min(a.x, b.x); x < max(a.x, b.x); x++)
-            if (is_blocked(board, x, a.y - 1) && is_blocked(board, x, a.y)) {
-                int nearer = a.x < b.x ? x : x + 1, farther = a.x < b.x ? x + 1 : x;
-                struct stop met = {WEXXOLIN_EDGE, {nearer, a.y}, {farther, a.y}, come_to(a.x, b.x, x)};
-                meet(stop, met);
+    return one > other ? one : other;
+}
+
+/* "For a leg a to b and a point p, the side is (bx−ax)(py−ay) − (by−ay)(px−ax)." */
+static int side_of(struct point a, struct point b, int px, int py)
+{
+    return (b.x - a.x) * (py - a.y) - (b.y - a.y) * (px - a.x);
+}
+
+/*
+ * "A cell (i, j) is crossed exactly if some of its four corners have a positive side and some a negative one, and
+ * min(ax,bx) < i+1, max(ax,bx) > i, min(ay,by) < j+1, max(ay,by) > j."
+ */
+static int is_crossed(struct point a, struct point b, int i, int j)
+{
+    int some_positive = side_of(a, b, i, j) > 0 || side_of(a, b, i + 1, j) > 0
+        || side_of(a, b, i, j + 1) > 0 || side_of(a, b, i + 1, j + 1) > 0;
+    int some_negative = side_of(a, b, i, j) < 0 || side_of(a, b, i + 1, j) < 0
+        || side_of(a, b, i, j + 1) < 0 || side_of(a, b, i + 1, j + 1) < 0;
+    return some_positive && some_negative
+        && least_of(a.x, b.x) < i + 1 && greatest_of(a.x, b.x) > i
+        && least_of(a.y, b.y) < j + 1 && greatest_of(a.y, b.y) > j;
+}
+
+/*
+ * "counted from the leg's first end": the place of a point p on the leg. The whole leg counts as
+ * max(|dx|, 1) × max(|dy|, 1), so that the places of all grid lines met are whole numbers.
+ */
+static int place_of_point(struct point a, struct point b, struct point p)
+{
+    if (a.x != b.x) {
+        return size_of(p.x - a.x) * greatest_of(size_of(b.y - a.y), 1);
+    }
+    return size_of(p.y - a.y);
+}
+
+/*
+ * "the first such thing counted from the leg's first end": the place where a leg that crosses cell (i, j), and so is on
+ * no axis, comes into its interior: once it is past both the nearer column line and the nearer row line of the cell.
+ */
+static int place_of_cell(struct point a, struct point b, int i, int j)
+{
+    int nearer_column = b.x > a.x ? i : i + 1;
+    int nearer_row = b.y > a.y ? j : j + 1;
+    int place_of_column = size_of(nearer_column - a.x) * size_of(b.y - a.y);
+    int place_of_row = size_of(nearer_row - a.y) * size_of(b.x - a.x);
+    return greatest_of(place_of_column, place_of_row);
+}
+
+/* A vertex p is on the leg, its ends counted: the side is 0 and p is within the span. */
+static int is_on_leg(struct point a, struct point b, struct point p)
+{
+    return side_of(a, b, p.x, p.y) == 0
+        && least_of(a.x, b.x) <= p.x && p.x <= greatest_of(a.x, b.x)
+        && least_of(a.y, b.y) <= p.y && p.y <= greatest_of(a.y, b.y);
+}
+
+/* "stopped by an edge with its two vertices, nearer first": the unit edge p to q as a stop of the leg. */
+static struct stop stop_at_edge(struct point a, struct point b, struct point p, struct point q)
+{
+    struct stop stop = { WEXXOLIN_EDGE, p, q };
+    if (place_of_point(a, b, q) < place_of_point(a, b, p)) {
+        stop.first = q;
+        stop.second = p;
+    }
+    return stop;
+}
+
+/*
+ * "A leg has sight unless one of these holds: It crosses the interior of a blocked cell. [...] It is horizontal or
+ * vertical, and a unit edge on it has blocked cells on both sides, outside included." "It names the first such thing
+ * counted from the leg's first end." The place of the stop goes to *place, -1 if there is none.
+ */
+static struct stop first_stop_and_place(const struct board *board, struct point a, struct point b, int *place)
+{
+    struct stop found = { WEXXOLIN_NOTHING, { 0, 0 }, { 0, 0 } };
+    *place = -1;
+    /* "It crosses the interior of a blocked cell." */
+    for (int j = 0; j < board->height; j++) {
+        for (int i = 0; i < board->width; i++) {
+            if (is_blocked(board, i, j) && is_crossed(a, b, i, j)) {
+                int here = place_of_cell(a, b, i, j);
+                if (*place < 0 || here < *place) {
+                    struct stop stop = { WEXXOLIN_CELL, { i, j }, { 0, 0 } };
+                    found = stop;
+                    *place = here;
+                }
             }
-    if (a.x == b.x)
-        for (int y = min(a.y, b.y); y < max(a.y, b.y); y++)
-            if (is_blocked(board, a.x - 1, y) && is_blocked(board, a.x, y)) {
-                int nearer = a.y < b.y ? y : y + 1, farther = a.y < b.y ? y + 1 : y;
-                struct stop met = {WEXXOLIN_EDGE, {a.x, nearer}, {a.x, farther}, come_to(a.y, b.y, y)};
-                meet(stop, met);
+        }
+    }
+    /* "It is horizontal [...], and a unit edge on it has blocked cells on both sides, outside included." */
+    if (a.y == b.y) {
+        for (int y = 0; y <= board->height; y++) {
+            for (int x = 0; x < board->width; x++) {
+                struct point p = { x, y };
+                struct point q = { x + 1, y };
+                if (is_on_leg(a, b, p) && is_on_leg(a, b, q) && is_blocked(board, x, y - 1) && is_blocked(board, x, y)) {
+                    struct stop stop = stop_at_edge(a, b, p, q);
+                    int here = place_of_point(a, b, stop.first);
+                    if (*place < 0 || here < *place) {
+                        found = stop;
+                        *place = here;
+                    }
+                }
             }
+        }
+    }
+    /* "It is [...] vertical, and a unit edge on it has blocked cells on both sides, outside included." */
+    if (a.x == b.x) {
+        for (int y = 0; y < board->height; y++) {
+            for (int x = 0; x <= board->width; x++) {
+                struct point p = { x, y };
+                struct point q = { x, y + 1 };
+                if (is_on_leg(a, b, p) && is_on_leg(a, b, q) && is_blocked(board, x - 1, y) && is_blocked(board, x, y)) {
+                    struct stop stop = stop_at_edge(a, b, p, q);
+                    int here = place_of_point(a, b, stop.first);
+                    if (*place < 0 || here < *place) {
+                        found = stop;
+                        *place = here;
+                    }
+                }
+            }
+        }
+    }
+    return found;
+}
+
+/*
+ * "Line of sight is to answer clear, or stopped by a cell, or stopped by an edge with its two vertices, nearer first. It
+ * names the first such thing counted from the leg's first end." "A vertex has sight of itself."
+ */
+static struct stop first_stop(const struct board *board, struct point a, struct point b)
+{
+    int place;
+    return first_stop_and_place(board, a, b, &place);
 }
 
 /* ---------- length and direction ---------- */
@@ -326,10 +426,8 @@ struct wexxolin_sight second_sight(const uint8_t *cells, size_t cells_len, size_
     if (refusal.number == 0) {
         struct board board = {cells, (int)width, (int)height};
         struct point a = {(int)ax, (int)ay}, b = {(int)bx, (int)by};
-        struct stop stop = {WEXXOLIN_NOTHING, {0, 0}, {0, 0}, {0, 1}};
         answer.sight = has_sight(&board, a, b) ? 1 : 0;
-        meet_cells(&board, a, b, &stop);
-        meet_edges(&board, a, b, &stop);
+        struct stop stop = first_stop(&board, a, b);
         answer.kind = stop.kind;
         answer.x = (uint64_t)stop.first.x, answer.y = (uint64_t)stop.first.y;
         answer.x2 = (uint64_t)stop.second.x, answer.y2 = (uint64_t)stop.second.y;
@@ -530,22 +628,44 @@ static int is_13(const uint8_t *r)
     return r[0] != TYPE_BOARD && r[0] != TYPE_KEEPOUT && r[0] != TYPE_NET;
 }
 
-/* "board: byte 2 width, byte 3 height; others 0"; "keepout: ... 1, 6, 7 are 0"; "net: ... 6, 7 are 0"; byte 0 is the type */
-static int is_unused(uint8_t type, unsigned byte)
+/*
+ * The bits of a byte (number 0 to 7) that a record of this type leaves unused.
+ * "Byte 0 is the type."
+ * "1 board: byte 2 width, byte 3 height; others 0."
+ * "2 keepout: byte 2 and 3 first cell x, y; byte 4 and 5 the x, y just past the last; 1, 6, 7 are 0."
+ * "3 net: byte 1 net number; 2, 3 start x, y; 4, 5 goal x, y; 6, 7 are 0."
+ */
+static unsigned unused_bits_of_byte(unsigned type, unsigned byte)
 {
-    switch (type) {
-    case TYPE_BOARD: return byte == 1 || byte >= 4;
-    case TYPE_KEEPOUT: return byte == 1 || byte >= 6;
-    default: return byte >= 6;
+    if (byte == 0) {
+        return 0;
     }
+    if (type == 1) {
+        if (byte == 2 || byte == 3) {
+            return 0;
+        }
+        return 0xFF;
+    }
+    if (byte >= 2 && byte <= 5) {
+        return 0;
+    }
+    if (byte == 1 && type == 3) {
+        return 0;
+    }
+    return 0xFF;
 }
 
-/* "23, an unused byte"; "a refusal names the first place that earns it": that byte's number, or 0 if all unused bytes are 0 */
+/*
+ * "23, an unused byte, comes directly after 13 with record and byte number, both printed." The number of the first unused
+ * byte that is not 0, or 0 if there is none (byte 0 is the type and never unused).
+ */
 static unsigned byte_of_23(const uint8_t *r)
 {
-    for (unsigned byte = 1; byte < RECORD; byte++)
-        if (is_unused(r[0], byte) && r[byte] != 0)
+    for (unsigned byte = 1; byte < 8; byte++) {
+        if ((r[byte] & unused_bits_of_byte(r[0], byte)) != 0) {
             return byte;
+        }
+    }
     return 0;
 }
 
