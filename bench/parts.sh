@@ -39,7 +39,7 @@ part() {
             if (inner == "units_of" || inner ~ /^(table|length)::/ && inner !~ /_lengths$/) return "lengths"
             if (all ~ / (walk|steps|slant|axis)( |$)/ || all ~ / walks::inner::sees( |$)/) return "sight tests"
             if (all ~ / (rise|put|take_first|key_of|place_of)( |$)/ || all ~ / (open|tournament)::/) return "open list"
-            if (all ~ / (look|look_around|visible|run|write)( |$)/ || all ~ / search::turns::run( |$)/) return "turns and neighbours"
+            if (all ~ / (look|look_around|visible|run|write)( |$)/ || all ~ / turns::inner::run( |$)/) return "turns and neighbours"
             return "checks, clearing, path"
         }
         { part[part_of($2, $0)] += $1; sum += $1 }

@@ -15,8 +15,8 @@ use board::inner::number_of;
 use length::inner::exact_cells;
 use path::inner::count_path;
 use path::inner::write_path;
-use search::Outcome;
 use search::inner::find;
+use turns::Outcome;
 
 // A route, or why there is none: document 01's 0, 8, and 1 to 7.
 pub enum Answer {

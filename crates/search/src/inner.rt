@@ -7,22 +7,22 @@ ghost use Rattle.table.specs.Lengths.{smallSide, middleSide, Known};
 ghost use Rattle.theta.specs.Lent.{state, Searched};
 ghost use Rattle.problem.specs.Problem.{problem};
 ghost use Rattle.round.specs.Request.{asked, sizeOf, diagonal, Asked};
-use crate::Outcome;
-use crate::turns::begin;
-use crate::turns::run;
 use board::LINE;
 use board::SIDE;
 use board::Vertex;
 use board::inner::number_of;
+use entries::large_lengths;
+use entries::middle_lengths;
+use entries::small_lengths;
 use open::list::GROUP;
 use open::list::open_vertex;
 use round::Request;
 use table::MIDDLE_SIDE;
 use table::SMALL_SIDE;
-use table::large_lengths;
-use table::middle_lengths;
-use table::small_lengths;
 use tournament::tree::NO_KEY;
+use turns::Outcome;
+use turns::inner::begin;
+use turns::inner::run;
 
 // The nodes of the largest board; node 0 is not used.
 const NODES: usize = 2 * LINE * (SIDE / GROUP + 1);

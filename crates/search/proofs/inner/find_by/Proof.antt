@@ -12,7 +12,7 @@ use Rattle.theta.specs.Search.{State}
 use Rattle.theta.specs.Lent.{state, Begun}
 use Rattle.round.specs.Request.{sizeOf}
 use Rattle.problem.proofs.Sizes.{vertices-most}
-use Rattle.search.proofs.Finding.{start-sited, cleared-listed, cleared-lower, cleared-begun, begun-begins, found-whole}
+use Rattle.turns.proofs.Finding.{start-sited, cleared-listed, cleared-lower, cleared-begun, begun-begins, found-whole}
 use Rattle.search.proofs.inner.find_by.Statement.{statement}
 use Rattle.search.proofs.inner.find_by.Tie as tie
 
