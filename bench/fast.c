@@ -108,20 +108,26 @@ static uint64_t refusal(struct field *field, const uint8_t *cells, size_t cells_
 
 /* ---------- sight ---------- */
 
-/* A leg on an axis: the cells on both sides of each of its edges. */
+/* A leg on an axis: the cells on both sides of each of its edges, and those of the edge before: where both pairs differ within
+   and from each other, the vertex between is pinched. On a border that cannot be, for one side is blocked all along. */
 INLINE int axis(const uint8_t *one, ptrdiff_t other, ptrdiff_t step, const uint8_t *end)
 {
-    do {
-        if (one[0] & one[other] & BLOCKED)
+    if (one[0] & one[other] & BLOCKED)
+        return 0;
+    for (one += step; one != end; one += step) {
+        unsigned near = one[0], far = one[other];
+        if (near & far & BLOCKED)
             return 0;
-        one += step;
-    } while (one != end);
+        if ((near ^ far) & (near ^ one[-step]) & (far ^ one[other - step]) & BLOCKED)
+            return 0;
+    }
     return 1;
 }
 
 /* A leg n steps along and m across, m <= n, whose first cell is free. ahead is how far it goes on, in parts of a cell, before
    it leaves its line of cells, less 1: below 0 it leaves it within the next step along, and with -1 just at its end, through a
-   corner. Only there can the leg be at its end, in the last cell. */
+   corner. Only there can the leg be at its end, in the last cell, or at a vertex, which is pinched if the two cells that it does
+   not cross are blocked (if one that it crosses is, it has no sight anyway). */
 INLINE int slant(const uint8_t *cell, ptrdiff_t along, ptrdiff_t across, int n, int m, const uint8_t *last)
 {
     ptrdiff_t both = along + across;
@@ -134,6 +140,8 @@ INLINE int slant(const uint8_t *cell, ptrdiff_t along, ptrdiff_t across, int n, 
             if (ahead == -1) {
                 if (cell == last)
                     return 1;
+                if (cell[across] & cell[along] & BLOCKED)
+                    return 0;
             } else if (cell[across] & BLOCKED)
                 return 0;
             cell += both;
@@ -186,6 +194,18 @@ INLINE int walk(const uint8_t *a, const uint8_t *b, int dx, int dy)
 /* The cell (x, y), outside included. */
 static int is_shut(const struct field *field, int x, int y) { return field->bytes[(y + 1) * LINE + x + 1] & BLOCKED; }
 
+/* Two diagonally opposite cells around the vertex at this byte blocked, the other two free; nowhere on the border, where two cells
+   side by side are outside. */
+INLINE int is_pinched(const uint8_t *at)
+{
+    return (at[0] ^ at[1]) & (at[0] ^ at[LINE]) & (at[1] ^ at[LINE + 1]) & BLOCKED;
+}
+
+static void name_vertex(int x, int y, struct wexxolin_sight *answer)
+{
+    answer->kind = WEXXOLIN_VERTEX, answer->x = (uint64_t)x, answer->y = (uint64_t)y;
+}
+
 /* The first stop of a leg that the walk found stopped, step by step from its first end. The search does not ask for it. */
 static void name_stop(const struct field *field, int ax, int ay, int bx, int by, struct wexxolin_sight *answer)
 {
@@ -198,15 +218,25 @@ static void name_stop(const struct field *field, int ax, int ay, int bx, int by,
                     answer->kind = WEXXOLIN_CELL, answer->x = (uint64_t)x, answer->y = (uint64_t)y;
                     return;
                 }
+                int vx = ax + right * (u + 1), vy = ay + down * (v + 1);
+                if (m * (u + 1) == n * (v + 1) && u + 1 < n && is_pinched(field->bytes + vy * LINE + vx)) {
+                    name_vertex(vx, vy, answer);
+                    return;
+                }
             }
         return;
     }
-    for (int x = ax, y = ay; x != bx || y != by; x += right, y += down)
+    for (int x = ax, y = ay; x != bx || y != by; x += right, y += down) {
+        if ((x != ax || y != ay) && is_pinched(field->bytes + y * LINE + x)) {
+            name_vertex(x, y, answer);
+            return;
+        }
         if (is_shut(field, right < 0 ? x - 1 : x, down < 0 ? y - 1 : y) && is_shut(field, right > 0 ? x : x - 1, down > 0 ? y : y - 1)) {
             answer->kind = WEXXOLIN_EDGE, answer->x = (uint64_t)x, answer->y = (uint64_t)y;
             answer->x2 = (uint64_t)(x + right), answer->y2 = (uint64_t)(y + down);
             return;
         }
+    }
 }
 
 struct wexxolin_sight fast_sight(const uint8_t *cells, size_t cells_len, size_t width, size_t height,
@@ -316,7 +346,7 @@ INLINE unsigned visible(const uint8_t *at)
 
 /* The vertex that is being expanded: its place and its parent's, their g, and how far the parent and the goal are from it. */
 struct turn {
-    size_t place, parent;
+    size_t place, parent, goal;
     uint64_t own_g, parent_g;
     int px, py, hx, hy;
     unsigned visible;
@@ -329,6 +359,8 @@ INLINE void look(struct search *s, struct turn *t, unsigned bit, int dx, int dy)
     size_t n = t->place + (size_t)(dy * LINE + dx), from = t->parent;
     uint8_t *byte = s->field.bytes + n;
     if (!(t->visible & bit) || *byte & EXPANDED)
+        return;
+    if (!(*byte & SEEN) && is_pinched(byte) && n != t->goal) /* what has been seen was no such vertex; the start has been */
         return;
     int px = t->px - dx, py = t->py - dy;
     uint64_t new_g, step = dx && dy ? DIAGONAL_UNITS : AXIS_UNITS;
@@ -388,7 +420,7 @@ static int run(struct search *s, size_t start, size_t goal, const struct slices 
 {
     size_t gx = goal % LINE, gy = goal / LINE;
     int hx = (int)gx - (int)(start % LINE), hy = (int)gy - (int)(start / LINE), square = hx * hx + hy * hy, found = 0;
-    struct turn t = {.expansions = 0};
+    struct turn t = {.goal = goal};
     s->keys[0] = 0;
     s->count = 1;
     put(s, 1, key_of(units_of(square), square, (unsigned)start));

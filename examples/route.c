@@ -72,6 +72,8 @@ int main(void)
         printf(" by the cell %u,%u", (unsigned)sight.x, (unsigned)sight.y);
     if (sight.kind == WEXXOLIN_EDGE)
         printf(" by the edge from %u,%u to %u,%u", (unsigned)sight.x, (unsigned)sight.y, (unsigned)sight.x2, (unsigned)sight.y2);
+    if (sight.kind == WEXXOLIN_VERTEX)
+        printf(" at %u,%u, between two keepouts that touch", (unsigned)sight.x, (unsigned)sight.y);
     printf("\n");
     return 0;
 }

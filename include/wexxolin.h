@@ -34,12 +34,14 @@ extern "C" {
 typedef uint16_t wexxolin_vertex;
 
 /* Does the leg from (ax, ay) to (bx, by) have sight? sight is 1 or 0. Where it is 0, kind and what follows name the first thing that
-   stops the leg, counted from (ax, ay): a blocked cell (x, y), or a unit edge with blocked cells on both sides, from (x, y) to
-   (x2, y2), the nearer vertex first. What names nothing is 0. Refusals 1 to 5. */
+   stops the leg, counted from (ax, ay): a blocked cell (x, y); a unit edge with blocked cells on both sides, from (x, y) to
+   (x2, y2), the nearer vertex first; or a pinched vertex (x, y) strictly inside the leg, one on the inside of the board with two
+   diagonally opposite cells blocked and the other two free. What names nothing is 0. Refusals 1 to 5. */
 enum wexxolin_stop {
     WEXXOLIN_NOTHING = 0,
     WEXXOLIN_CELL = 1,
-    WEXXOLIN_EDGE = 2
+    WEXXOLIN_EDGE = 2,
+    WEXXOLIN_VERTEX = 3
 };
 struct wexxolin_sight {
     uint64_t number, place, second, sight, kind, x, y, x2, y2;
@@ -64,7 +66,8 @@ struct wexxolin_direction {
 struct wexxolin_direction wexxolin_direction(int32_t dx, int32_t dy);
 struct wexxolin_direction wexxolin_direction_between(size_t ax, size_t ay, size_t bx, size_t by);
 
-/* The route from (sx, sy) to (gx, gy). vertices is the number of entries written to path. Refusals 1 to 7; 8 is no path.
+/* The route from (sx, sy) to (gx, gy); of its vertices only the first and the last may be pinched. vertices is the number of
+   entries written to path. Refusals 1 to 7; 8 is no path.
    g, parents and marks need (width + 1) * (height + 1) entries; 64 * 64 always suffice, for path too. After 0, 7 and 8 they hold
    each vertex's length from the start, its parent and its mark: 0 unseen, 1 open, 2 expanded. It needs at most 51 KiB of stack (measured). */
 struct wexxolin_route {

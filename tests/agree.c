@@ -545,6 +545,20 @@ static int blocked_at(const struct route_case *c, size_t i, size_t j) /* i, j on
     return i == 0 || j == 0 || i > c->width || j > c->height || c->cells[(j - 1) * c->width + i - 1];
 }
 
+/* "A pinched vertex is one on the inside of the board with two diagonally opposite cells blocked and the other two free." */
+static int pinched_at(const struct route_case *c, size_t x, size_t y)
+{
+    int nw = blocked_at(c, x, y), ne = blocked_at(c, x + 1, y), sw = blocked_at(c, x, y + 1), se = blocked_at(c, x + 1, y + 1);
+    return x > 0 && x < c->width && y > 0 && y < c->height && nw == se && ne == sw && nw != ne;
+}
+
+/* "a pinched vertex other than start and goal is nobody's visible neighbour" */
+static int is_somebodys(const struct route_case *c, size_t v)
+{
+    size_t stride = c->width + 1, x = v % stride, y = v / stride;
+    return v == c->sy * stride + c->sx || v == c->gy * stride + c->gx || !pinched_at(c, x, y);
+}
+
 static void flood(const struct route_case *c, uint8_t *reached)
 {
     static uint16_t waiting[MOST_VERTICES];
@@ -560,7 +574,7 @@ static void flood(const struct route_case *c, uint8_t *reached)
         long step[8] = {-s - 1, -s, -s + 1, -1, 1, s - 1, s, s + 1};
         for (int k = 0; k < 8; k++) {
             size_t w = (size_t)((long)v + step[k]);
-            if (open[k] && !reached[w]) {
+            if (open[k] && !reached[w] && is_somebodys(c, w)) {
                 reached[w] = 1;
                 waiting[last++] = (uint16_t)w;
             }
@@ -577,11 +591,13 @@ static uint64_t pairs_with_expanded(const struct route_case *c, const uint8_t *m
     for (size_t y = 0; y <= c->height; y++)
         for (size_t x = 0; x <= c->width; x++) {
             int ne = blocked_at(c, x + 1, y), sw = blocked_at(c, x, y + 1), se = blocked_at(c, x + 1, y + 1);
-            size_t v = y * stride + x;
-            pairs += !(ne && se) && (marks[v] == 2 || marks[v + 1] == 2);
-            pairs += !(sw && se) && (marks[v] == 2 || marks[v + stride] == 2);
-            pairs += !se && (marks[v] == 2 || marks[v + stride + 1] == 2);
-            pairs += !sw && (marks[v] == 2 || marks[v + stride - 1] == 2);
+            size_t v = y * stride + x, right = v + 1, down = v + stride;
+            if (!is_somebodys(c, v))
+                continue;
+            pairs += !(ne && se) && (marks[v] == 2 || marks[right] == 2) && is_somebodys(c, right);
+            pairs += !(sw && se) && (marks[v] == 2 || marks[down] == 2) && is_somebodys(c, down);
+            pairs += !se && (marks[v] == 2 || marks[down + 1] == 2) && is_somebodys(c, down + 1);
+            pairs += !sw && (marks[v] == 2 || marks[down - 1] == 2) && is_somebodys(c, down - 1);
         }
     return pairs;
 }
@@ -609,7 +625,8 @@ static const char *wrong_marks(const struct route_case *c, struct wexxolin_route
     return wrong;
 }
 
-/* A path starts and ends where asked, every leg has sight, the lengths of the legs add up. Returns what is wrong, or NULL. */
+/* A path starts and ends where asked, only there it may be pinched, every leg has sight, the lengths of the legs add up. Returns
+   what is wrong, or NULL. */
 static const char *wrong_path(const struct route_case *c, struct wexxolin_route r)
 {
     size_t stride = c->width + 1, goal = c->gy * stride + c->gx;
@@ -622,6 +639,8 @@ static const char *wrong_path(const struct route_case *c, struct wexxolin_route 
         size_t ax = path[i - 1] % stride, ay = path[i - 1] / stride, bx = path[i] % stride, by = path[i] / stride;
         if (second_sight(c->cells, c->cells_len, c->width, c->height, ax, ay, bx, by).sight != 1)
             wrong = "a leg of the path without sight";
+        if (i + 1 < r.vertices && pinched_at(c, bx, by))
+            wrong = "a pinched vertex between the path's ends";
         units += second_length_between(ax, ay, bx, by).units;
     }
     if (units != r.units || r.cells != (double)units / 1048576.0)
@@ -841,7 +860,7 @@ static void document_lengths(void)
     }
 }
 
-/* A leg on 2 by 2 cells, and what document 01 says of it; what stops it, by document 02's item 2. */
+/* A leg on 2 by 2 cells, and what document 01 says of it, with document 02's item 6; what stops it, by items 2 and 6. */
 static void document_sights(void)
 {
     static const struct {
@@ -852,7 +871,9 @@ static void document_sights(void)
                 {{0, 1, 0, 0}, 0, 0, 2, 2, 1, WEXXOLIN_NOTHING, 0, 0, 0, 0}, {{0, 1, 0, 0}, 1, 0, 1, 1, 1, WEXXOLIN_NOTHING, 0, 0, 0, 0},
                 {{0, 1, 0, 0}, 1, 0, 2, 0, 0, WEXXOLIN_EDGE, 1, 0, 2, 0},    {{0, 1, 0, 0}, 2, 0, 1, 0, 0, WEXXOLIN_EDGE, 2, 0, 1, 0},
                 {{0, 1, 0, 0}, 0, 0, 2, 0, 0, WEXXOLIN_EDGE, 1, 0, 2, 0},    {{0, 1, 0, 0}, 2, 1, 2, 0, 0, WEXXOLIN_EDGE, 2, 1, 2, 0},
-                {{0, 1, 1, 0}, 0, 0, 2, 2, 1, WEXXOLIN_NOTHING, 0, 0, 0, 0}};
+                {{0, 1, 1, 0}, 0, 0, 2, 2, 0, WEXXOLIN_VERTEX, 1, 1, 0, 0},  {{0, 1, 1, 0}, 2, 2, 0, 0, 0, WEXXOLIN_VERTEX, 1, 1, 0, 0},
+                {{0, 1, 1, 0}, 1, 0, 1, 2, 0, WEXXOLIN_VERTEX, 1, 1, 0, 0},  {{0, 1, 1, 0}, 0, 0, 1, 1, 1, WEXXOLIN_NOTHING, 0, 0, 0, 0},
+                {{0, 1, 1, 1}, 1, 0, 1, 2, 0, WEXXOLIN_EDGE, 1, 1, 1, 2},    {{0, 1, 0, 0}, 1, 0, 1, 2, 1, WEXXOLIN_NOTHING, 0, 0, 0, 0}};
     for (size_t i = 0; i < sizeof rows / sizeof *rows; i++) {
         struct leg_case c = {rows[i].cells, 4, 2, 2, rows[i].ax, rows[i].ay, rows[i].bx, rows[i].by};
         compare_sight_both_ways(c);
@@ -874,7 +895,10 @@ static void document_routes(void)
         uint64_t number, units, vertices, expansions, tests;
     } rows[] = {{1, 1, 0, 0, 1, 1, {0}, 0, 1482910, 2, 1, 3},      {1, 1, 0, 0, 1, 1, {1}, 8, 0, 0, 1, 0},
                 {1, 1, 0, 0, 0, 0, {1}, 0, 0, 1, 0, 0},            {3, 1, 0, 0, 3, 0, {0, 1, 0}, 8, 0, 0, 4, 6},
-                {2, 2, 0, 0, 2, 1, {0, 1, 0, 0}, 0, 2531486, 3, 3, 10}};
+                {2, 2, 0, 0, 2, 1, {0, 1, 0, 0}, 0, 2531486, 3, 3, 10},
+                /* by hand, under item 6: not through the pinched vertex, to it, and from it */
+                {2, 2, 0, 0, 2, 2, {0, 1, 1, 0}, 8, 0, 0, 3, 3},   {2, 2, 0, 0, 1, 1, {0, 1, 1, 0}, 0, 1482910, 2, 1, 3},
+                {2, 2, 1, 1, 2, 2, {0, 1, 1, 0}, 0, 1482910, 2, 1, 6}};
     for (size_t i = 0; i < sizeof rows / sizeof *rows; i++) {
         struct route_case c = route_on(rows[i].cells, rows[i].width, rows[i].height);
         c.sx = rows[i].sx, c.sy = rows[i].sy, c.gx = rows[i].gx, c.gy = rows[i].gy;
@@ -1137,6 +1161,48 @@ static void group_near_sights(void)
     end_group();
 }
 
+/* A vertex on the inside of a board of at least 2 by 2, pinched if such a one is found by some throws. */
+static void throw_pinched(const struct route_case *on, size_t *x, size_t *y)
+{
+    for (int k = 0; k < 40; k++) {
+        *x = 1 + below(on->width - 1), *y = 1 + below(on->height - 1);
+        if (pinched_at(on, *x, *y))
+            return;
+    }
+}
+
+/* From a vertex so many equal steps, as long as they stay on the board. */
+static void go_on(const struct route_case *on, size_t *x, size_t *y, long dx, long dy, size_t steps)
+{
+    for (; steps > 0; steps--) {
+        size_t nx = (size_t)((long)*x + dx), ny = (size_t)((long)*y + dy);
+        if (nx > on->width || ny > on->height)
+            return;
+        *x = nx, *y = ny;
+    }
+}
+
+/* Legs through a pinched vertex, and legs that end in one, on boards made of diagonal pairs. */
+static void group_pinched_sights(void)
+{
+    begin_group("sight, diagonal pairs");
+    for (size_t k = 0; k < 500 * scale; k++) {
+        size_t most = k % 4 ? 10 : 62, width = 2 + below(most), height = 2 + below(most), pairs = 1 + below(k % 3 ? 4 : 30);
+        board_pairs(&dice, cells, width, height, pairs);
+        struct route_case on = route_on(cells, width, height);
+        for (size_t i = 0; i < 30; i++) {
+            struct leg_case c = random_leg(width, height);
+            long dx = (long)below(i % 3 ? 3 : 7) - (i % 3 ? 1 : 3), dy = (long)below(i % 2 ? 3 : 7) - (i % 2 ? 1 : 3);
+            throw_pinched(&on, &c.ax, &c.ay);
+            c.bx = c.ax, c.by = c.ay;
+            go_on(&on, &c.ax, &c.ay, -dx, -dy, below(4));
+            go_on(&on, &c.bx, &c.by, dx, dy, below(4));
+            compare_sight_both_ways(c);
+        }
+    }
+    end_group();
+}
+
 static void random_routes(const char *name, size_t boards, void (*make)(size_t, size_t), size_t least, size_t most, int corners)
 {
     begin_group(name);
@@ -1162,6 +1228,7 @@ static void random_routes(const char *name, size_t boards, void (*make)(size_t, 
 static void make_maze(size_t width, size_t height) { board_maze(&dice, cells, width, height); }
 static void make_serpentine(size_t width, size_t height) { board_serpentine(&dice, cells, width, height); }
 static void make_chequered(size_t width, size_t height) { board_chequered(&dice, cells, width, height, below(25)); }
+static void make_pairs(size_t width, size_t height) { board_pairs(&dice, cells, width, height, 1 + below(width * height / 3 + 1)); }
 static void make_staircases(size_t width, size_t height) { board_staircases(&dice, cells, width, height); }
 static void make_divided(size_t width, size_t height) { board_divided(&dice, cells, width, height); }
 static void make_keepouts(size_t width, size_t height) { board_keepouts(&dice, cells, width, height, below(16)); }
@@ -1210,6 +1277,26 @@ static void group_enclosed_routes(void)
     end_group();
 }
 
+/* "it may only be the first or last vertex of a path": starts and goals that are pinched, one of them or both. */
+static void group_pinched_routes(void)
+{
+    begin_group("route, pinched start or goal");
+    for (size_t k = 0; k < 600 * scale; k++) {
+        size_t width = 2 + below(12), height = 2 + below(12);
+        make_pairs(width, height);
+        struct route_case c = route_on(cells, width, height);
+        random_ends(&c);
+        if (k % 3 != 1)
+            throw_pinched(&c, &c.sx, &c.sy);
+        if (k % 3 != 2)
+            throw_pinched(&c, &c.gx, &c.gy);
+        lengthen(&c);
+        check_promises_of_route(&c, compare_route(&c));
+        compare_route_by_path_lengths(c);
+    }
+    end_group();
+}
+
 static void group_random_routes(void)
 {
     random_routes("route, small boards, few blocked", 2500 * scale, make_sparse, 1, 10, 0);
@@ -1227,10 +1314,13 @@ static void group_random_routes(void)
     random_routes("route, serpentines", 60 * scale, make_serpentine, 3, 31, 1);
     random_routes("route, large serpentines", 3 * scale, make_serpentine, 61, 63, 1);
     random_routes("route, diagonal gaps", 200 * scale, make_chequered, 2, 26, 1);
+    random_routes("route, diagonal pairs", 500 * scale, make_pairs, 2, 20, 1);
+    random_routes("route, large boards, diagonal pairs", 8 * scale, make_pairs, 50, 63, 1);
     random_routes("route, staircases", 100 * scale, make_staircases, 3, 26, 1);
     random_routes("route, boards cut in two", 150 * scale, make_divided, 2, 24, 1);
     group_thin_routes();
     group_enclosed_routes();
+    group_pinched_routes();
 }
 
 /* ---------- groups: refusals ---------- */
@@ -1611,6 +1701,7 @@ static void all_but_routes(uint64_t seed)
     group_single_cells();
     group_near_sights();
     group_random_sights();
+    group_pinched_sights();
 }
 
 /* Dice of its own, so that the cases are the same whether the two parts run one after the other or at once. */

@@ -104,6 +104,18 @@ void board_chequered(struct dice *dice, uint8_t *cells, size_t width, size_t hei
             cells[y * width + x] = ((x + y) % 2 == 1) != (dice_below(dice, 100) < percent_changed);
 }
 
+/* Two blocked cells that touch at a corner, the other two there free, time and again on a free board. */
+void board_pairs(struct dice *dice, uint8_t *cells, size_t width, size_t height, size_t count)
+{
+    memset(cells, 0, width * height);
+    for (; count > 0 && width > 1 && height > 1; count--) {
+        size_t x = dice_below(dice, width - 1), y = dice_below(dice, height - 1), falling = dice_below(dice, 2);
+        uint8_t *cell = cells + y * width + x;
+        cell[0] = cell[width + 1] = (uint8_t)falling;
+        cell[1] = cell[width] = (uint8_t)!falling;
+    }
+}
+
 /* Diagonal rows of blocked cells with free ones between. */
 void board_staircases(struct dice *dice, uint8_t *cells, size_t width, size_t height)
 {

@@ -20,6 +20,7 @@ void board_keepouts(struct dice *dice, uint8_t *cells, size_t width, size_t heig
 void board_maze(struct dice *dice, uint8_t *cells, size_t width, size_t height);
 void board_serpentine(struct dice *dice, uint8_t *cells, size_t width, size_t height);
 void board_chequered(struct dice *dice, uint8_t *cells, size_t width, size_t height, size_t percent_changed);
+void board_pairs(struct dice *dice, uint8_t *cells, size_t width, size_t height, size_t count);
 void board_staircases(struct dice *dice, uint8_t *cells, size_t width, size_t height);
 void board_divided(struct dice *dice, uint8_t *cells, size_t width, size_t height);
 

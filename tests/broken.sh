@@ -133,13 +133,13 @@ broken between-in-32-bits fast_library.c 's/\(ax \| ay\) > 63/(uint32_t)(ax | ay
 broken difference-64 fast_library.c 's/dx \* dx > 63 \* 63/dx * dx > 64 * 64/'
 
 # sight
-broken corner-is-crossing fast.c 's/return 1;\n            \} else if \(cell\[across\] & BLOCKED\)/return 1;\n                if (cell[across] \& cell[along] \& BLOCKED) return 0;\n            } else if (cell[across] \& BLOCKED)/'
-broken corner-touched-one fast.c 's/return 1;\n            \} else if \(cell\[across\] & BLOCKED\)/return 1;\n                if (n > m \&\& cell[across] \& BLOCKED) return 0;\n            } else if (cell[across] \& BLOCKED)/'
+broken corner-is-crossing fast.c 's/cell\[across\] & cell\[along\] & BLOCKED/(cell[across] | cell[along]) \& BLOCKED/'
+broken corner-touched-one fast.c 's/cell\[across\] & cell\[along\] & BLOCKED/cell[across] \& (cell[along] | -(n > m)) \& BLOCKED/'
 broken corner-not-passed fast.c 's/cell \+= both;/cell += ahead == -1 ? along : both;/'
 broken last-cell-unseen fast.c 's/cell \+= both;\n            if \(\*cell & BLOCKED\)/cell += both;\n            if (*cell \& BLOCKED \&\& cell != last)/'
 broken edge-needs-one fast.c 's/one\[0\] & one\[other\]/(one[0] | one[other])/'
-broken edge-never fast.c 's/if \(one\[0\] & one\[other\] & BLOCKED\)/if (0)/'
-broken last-edge-unseen fast.c 's/(one \+= step;)/$1 if (one != end \&\& one + step == end) return 1;/'
+broken edge-never fast.c 's/if \(one\[0\] & one\[other\] & BLOCKED\)/if (0)/; s/if \(near & far & BLOCKED\)/if (0)/'
+broken last-edge-unseen fast.c 's/(unsigned near = one\[0\])/if (one + step == end) return 1; $1/'
 broken outside-free fast_library.c 's/return fast_sight\((.*?)\);/struct wexxolin_sight a = fast_sight($1); if (a.number == 0 \&\& ((ay == by \&\& (ay == 0 || ay == height)) || (ax == bx \&\& (ax == 0 || ax == width)))) a.sight = 1; return a;/s'
 broken itself-unseen fast_library.c 's/return fast_sight\((.*?)\);/struct wexxolin_sight a = fast_sight($1); if (ax == bx \&\& ay == by) a.sight = 0; return a;/s'
 broken sampled fast_library.c 's/return fast_sight\((.*?)\);/struct wexxolin_sight a = fast_sight($1); if (a.number || ax == bx || ay == by) return a; a.sight = 1; for (int k = 0; k < 1000; k++) { double t = (k + 0.5) \/ 1000, x = ax + t * ((double)bx - (double)ax), y = ay + t * ((double)by - (double)ay); if (cells[(size_t)y * width + (size_t)x] \&\& x != (size_t)x \&\& y != (size_t)y) a.sight = 0; } return a;/s'
@@ -151,6 +151,21 @@ broken stop-column-backwards fast.c 's/for \(int v = m \* u \/ n; v < m && n \* 
 broken stop-touched-cell fast.c 's/n \* v < m \* \(u \+ 1\)/n * v <= m * (u + 1)/'
 broken stop-cell-turned fast.c 's/WEXXOLIN_CELL, answer->x = \(uint64_t\)x, answer->y = \(uint64_t\)y/WEXXOLIN_CELL, answer->x = (uint64_t)y, answer->y = (uint64_t)x/'
 broken stop-from-second-end fast.c 's/name_stop\(&field, \(int\)ax, \(int\)ay, \(int\)bx, \(int\)by, &answer\)/name_stop(\&field, (int)bx, (int)by, (int)ax, (int)ay, \&answer)/'
+
+# pinched vertices
+broken pinched-inside-slanted fast.c 's/cell\[across\] & cell\[along\] & BLOCKED/0/'
+broken pinched-inside-axis fast.c 's/\(near \^ far\) & \(near/0 \& (near/'
+broken pinched-at-the-end fast.c 's/(                if \(cell == last\)\n *return 1;\n)(                if \(cell\[across\] & cell\[along\] & BLOCKED\)\n *return 0;\n)/$2$1/'
+broken pinched-by-three fast.c 's/ & \(at\[1\] \^ at\[LINE \+ 1\]\)//'
+broken pinched-on-the-border fast.c 's/\(at\[0\] \^ at\[1\]\) & //'
+broken pinched-neighbour fast.c 's/is_pinched\(byte\) && n != t->goal/0/'
+broken pinched-goal-forbidden fast.c 's/is_pinched\(byte\) && n != t->goal/is_pinched(byte)/'
+broken pinched-start-forbidden fast.c 's/(t\.visible = )(visible\(s->field\.bytes \+ t\.place\))/$1is_pinched(s->field.bytes + t.place) ? 0 : $2/'
+broken pinched-pair-counted fast.c 's/(    if \(!\(\*byte & SEEN\) && is_pinched.*?return;\n)(.*?    t->tests\+\+;\n)/$2$1/s'
+broken stop-vertex-as-cell fast.c 's/kind = WEXXOLIN_VERTEX/kind = WEXXOLIN_CELL/'
+broken stop-vertex-turned fast.c 's/WEXXOLIN_VERTEX, answer->x = \(uint64_t\)x, answer->y = \(uint64_t\)y/WEXXOLIN_VERTEX, answer->x = (uint64_t)y, answer->y = (uint64_t)x/'
+broken stop-last-vertex fast.c 's/(name_vertex\(vx, vy, answer\);)\n *return;/$1/'
+broken stop-edge-before-vertex fast.c 's/(name_vertex\(x, y, answer\);)\n *return;/$1/'
 
 # refusals 1 to 6
 broken side-64 fast.c 's/width - 1 > LARGEST_SIDE - 1/width - 1 > LARGEST_SIDE/'

@@ -2,7 +2,7 @@
 """make.py LINES: writes the jobs of this folder and what the route program prints for each.
 
 LINES is the program built from tests/second/lines.c. Where a row below says what must be printed, that was written by hand
-from document 01 and is checked against LINES. The jobs are in the folder already; this shows how they came about."""
+from the documents and is checked against LINES. The jobs are in the folder already; this shows how they came about."""
 import os, subprocess, sys
 
 here = os.path.dirname(os.path.abspath(__file__))
@@ -51,8 +51,10 @@ job("one-cell-free", "1 by 1 free, corner to corner", "0100010100000000 03010000
     "net 1 path 1482910 expanded 1 tests 3 at 0,0 1,1\n")
 job("one-cell-blocked", "1 by 1 blocked, corner to corner, and start = goal", "0100010100000000 0200000001010000 0301000001010000 0302000000000000",
     "net 1 none expanded 1 tests 0\nnet 2 path 0 expanded 0 tests 0 at 0,0\n")
-job("diagonal-gap", "2 by 2, (1,0) and (0,1) blocked: the leg (0,0)-(2,2) passes between them",
-    [board(2, 2), keepout(1, 0, 2, 1), keepout(0, 1, 1, 2), net(1, 0, 0, 2, 2), net(2, 2, 0, 0, 2), net(3, 1, 1, 2, 2)])
+job("diagonal-gap", "2 by 2, (1,0) and (0,1) blocked: no path passes (1,1), which is pinched; one may begin or end there",
+    [board(2, 2), keepout(1, 0, 2, 1), keepout(0, 1, 1, 2), net(1, 0, 0, 2, 2), net(2, 2, 0, 0, 2), net(3, 1, 1, 2, 2), net(4, 0, 0, 1, 1)],
+    "net 1 none expanded 3 tests 3\nnet 2 none expanded 1 tests 0\nnet 3 path 1482910 expanded 1 tests 6 at 1,1 2,2\n"
+    "net 4 path 1482910 expanded 1 tests 3 at 0,0 1,1\n")
 
 # 10 and 11: the length
 long_rows = [board(24, 24)]

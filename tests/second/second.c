@@ -1,4 +1,4 @@
-/* The second router. Every comment in quotation marks is the wording of document 01, or of 02's items 2 and 3. */
+/* The second router. Every comment in quotation marks is the wording of document 01, or of 02's items 2, 3 and 6. */
 #include "second.h"
 
 #include <stdarg.h>
@@ -121,12 +121,6 @@ static int has_blocked_edge(const struct board *board, struct point a, struct po
             if (is_blocked(board, a.x - 1, y) && is_blocked(board, a.x, y))
                 return 1;
     return 0;
-}
-
-/* "A leg has sight unless one of these holds" */
-static int has_sight(const struct board *board, struct point a, struct point b)
-{
-    return !crosses_blocked_cell(board, a, b) && !has_blocked_edge(board, a, b);
 }
 
 /* ---------- what stops a leg ---------- */
@@ -289,6 +283,91 @@ static struct stop first_stop(const struct board *board, struct point a, struct 
     return first_stop_and_place(board, a, b, &place);
 }
 
+/*
+ * "A pinched vertex is one on the inside of the board with two diagonally opposite cells blocked and the other two free."
+ */
+static int is_pinched(const struct board *board, struct point v)
+{
+    if (!(0 < v.x && v.x < board->width && 0 < v.y && v.y < board->height)) {
+        return 0;
+    }
+    int upper_left = is_blocked(board, v.x - 1, v.y - 1) != 0;
+    int upper_right = is_blocked(board, v.x, v.y - 1) != 0;
+    int lower_left = is_blocked(board, v.x - 1, v.y) != 0;
+    int lower_right = is_blocked(board, v.x, v.y) != 0;
+    return (upper_left && lower_right && !upper_right && !lower_left)
+        || (upper_right && lower_left && !upper_left && !lower_right);
+}
+
+/* Two vertices are the same one. */
+static int is_same_vertex(struct point p, struct point q)
+{
+    return p.x == q.x && p.y == q.y;
+}
+
+/*
+ * "no leg may have one strictly inside it (sight by itself refuses that and names the vertex)", with item 2's "It names
+ * the first such thing counted from the leg's first end."
+ */
+static struct stop first_stop_6(const struct board *board, struct point a, struct point b)
+{
+    int place;
+    struct stop found = first_stop_and_place(board, a, b, &place);
+    for (int y = 0; y <= board->height; y++) {
+        for (int x = 0; x <= board->width; x++) {
+            struct point v = { x, y };
+            if (is_on_leg(a, b, v) && !is_same_vertex(v, a) && !is_same_vertex(v, b) && is_pinched(board, v)) {
+                int here = place_of_point(a, b, v);
+                if (place < 0 || here < place) {
+                    struct stop stop = { WEXXOLIN_VERTEX, v, { 0, 0 } };
+                    found = stop;
+                    place = here;
+                }
+            }
+        }
+    }
+    return found;
+}
+
+/* "Vertices are cell corners, (0, 0) to (width, height)." */
+static int is_vertex_of_board(const struct board *board, struct point v)
+{
+    return 0 <= v.x && v.x <= board->width && 0 <= v.y && v.y <= board->height;
+}
+
+/* "Two vertices are neighbours if they differ and neither coordinate differs by more than 1." */
+static int is_neighbour(struct point u, struct point v)
+{
+    return !is_same_vertex(u, v) && size_of(u.x - v.x) <= 1 && size_of(u.y - v.y) <= 1;
+}
+
+/* "a pinched vertex other than start and goal" */
+static int is_pinched_other(const struct board *board, struct point start, struct point goal, struct point v)
+{
+    return is_pinched(board, v) && !is_same_vertex(v, start) && !is_same_vertex(v, goal);
+}
+
+/*
+ * "Neighbours with sight are called visible neighbours; a pair of them counts once, whichever way round." "a pinched vertex
+ * other than start and goal is nobody's visible neighbour". As a pair is the same whichever way round, neither of the two
+ * may be such a vertex.
+ */
+static int is_visible_neighbour(const struct board *board, struct point start, struct point goal,
+                                struct point u, struct point v)
+{
+    return is_vertex_of_board(board, u) && is_vertex_of_board(board, v)
+        && is_neighbour(u, v)
+        && first_stop_6(board, u, v).kind == WEXXOLIN_NOTHING
+        && !is_pinched_other(board, start, goal, u)
+        && !is_pinched_other(board, start, goal, v);
+}
+
+/* "A leg has sight unless one of these holds"; "no leg may have one strictly inside it (sight by itself refuses that)" */
+static int has_sight(const struct board *board, struct point a, struct point b)
+{
+    return !crosses_blocked_cell(board, a, b) && !has_blocked_edge(board, a, b) && first_stop_6(board, a, b).kind == WEXXOLIN_NOTHING;
+}
+
 /* ---------- length and direction ---------- */
 
 /* "the largest whole u with u² ≤" n, found bit by bit from the top */
@@ -427,7 +506,7 @@ struct wexxolin_sight second_sight(const uint8_t *cells, size_t cells_len, size_
         struct board board = {cells, (int)width, (int)height};
         struct point a = {(int)ax, (int)ay}, b = {(int)bx, (int)by};
         answer.sight = has_sight(&board, a, b) ? 1 : 0;
-        struct stop stop = first_stop(&board, a, b);
+        struct stop stop = first_stop_6(&board, a, b);
         answer.kind = stop.kind;
         answer.x = (uint64_t)stop.first.x, answer.y = (uint64_t)stop.first.y;
         answer.x2 = (uint64_t)stop.second.x, answer.y2 = (uint64_t)stop.second.y;
@@ -523,7 +602,7 @@ static void expand(struct search *s, size_t taken)
         for (int x = max(from.x - 1, 0); x <= min(from.x + 1, s->board.width); x++) {
             struct point to = {x, y};
             size_t neighbour = vertex_number(&s->board, to);
-            if (are_neighbours(from, to) && s->marks[neighbour] != EXPANDED && has_sight(&s->board, from, to))
+            if (s->marks[neighbour] != EXPANDED && is_visible_neighbour(&s->board, s->start, s->goal, from, to))
                 update(s, taken, neighbour);
         }
 }

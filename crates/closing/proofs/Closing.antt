@@ -1,16 +1,17 @@
--- The three demands, and what the search leaves: of every call of the route, and of every call from C. The only premise is the call's
--- contract, that is what it hands back and what the slices hold before and after it; specs/Demands.antt says each. Assumes nothing.
+-- The three demands, what the search leaves, and that a path squeezes through no pinched vertex: of every call of the route, and
+-- of every call from C. The only premise is the call's contract, that is what it hands back and what the slices hold before and
+-- after it; specs/Demands.antt says each. Assumes nothing.
 use mathlib.Core.Path.{_≡_, sym, ap, _∙_, subst}
 use Prim.Native.Nat.{ℕ}
 use Rattle.board.specs.Board.{Board}
 use Rattle.board.specs.Handed.{Handed}
 use Rattle.router.specs.Answers.{Route, Slices, Routed}
 use Rattle.router.specs.Demands.{Exhaustive}
-use Rattle.router.proofs.Demands.{route-exhaustive}
+use Rattle.router.proofs.Demands.{route-exhaustive, route-unpinched}
 use Rattle.told.specs.declared.Found.{Found}
 use Rattle.told.specs.Told.{toldRoute}
 use Rattle.capi.specs.Calls.{RoutedForC}
-use Rattle.closing.specs.Demands.{Given, Numbered, Kept, Theta, Searched, Left, fields}
+use Rattle.closing.specs.Demands.{Given, Numbered, Kept, Theta, Searched, Left, KeepsClear, fields}
 use Rattle.closing.proofs.Table.{row-first, row-only, row-known, row-bare}
 use Rattle.closing.proofs.Leaving.{kept, as-theta, left}
 
@@ -46,6 +47,10 @@ module _ {b : Board} {sx sy gx gy : ℕ} {before after : Slices} {h : Handed Rou
   pub route-leaves : Searched (h .number) → Left b sx sy gx gy after h
   route-leaves = left R
 
+  -- the path squeezes through no pinched vertex
+  pub route-keeps-clear : KeepsClear b after h
+  route-keeps-clear = route-unpinched R
+
 -- ---- the call from C, by its contract: the same of the struct's fields
 
 -- a route for C is a route, as its struct has it
@@ -65,3 +70,6 @@ module _ {b : Board} {sx sy gx gy : ℕ} {before after : Slices} {r : Found} (R 
 
   pub c-leaves : Searched (r .number) → Left b sx sy gx gy after (fields r)
   c-leaves = route-leaves (c-routed R)
+
+  pub c-keeps-clear : KeepsClear b after (fields r)
+  c-keeps-clear = route-keeps-clear (c-routed R)

@@ -8,7 +8,8 @@ use Rattle.board.specs.Board.{Board, board, blocked}
 use Rattle.board.specs.Handed.{firstBad, boardRows, endRows}
 use Rattle.length.specs.Root.{root, rootIn}
 use Rattle.length.specs.Units.{unitsOf}
-use Rattle.legs.specs.Sight.{side, positive, negative, someCorner, spans, crossed, cellsFree, rowWall, columnWall, between, edgesOpen, sees}
+use Rattle.legs.specs.Pinched.{pinched, admitted}
+use Rattle.legs.specs.Sight.{side, positive, negative, someCorner, spans, crossed, cellsFree, rowWall, columnWall, between, edgesOpen, strictlyInside, verticesOpen, sees}
 use Rattle.legs.specs.Neighbours.{neighbours, visible}
 use Rattle.reach.specs.Turns.{turns}
 use Rattle.theta.specs.Order.{sooner, least}
@@ -36,6 +37,6 @@ lent path = slices (replicate 4 0) (replicate 4 0) (replicate 4 0) (replicate pa
 -- from (0, 0) to (1, 1): the cell is free; free, and the path slice is too short; blocked
 pub examples : (routeRow free 0 0 1 1 (lent 2) .number ≡ 0) × (routeRow free 0 0 1 1 (lent 1) .number ≡ 7)
     × (routeRow full 0 0 1 1 (lent 2) .number ≡ 8)
-unfolding unitsOf root rootIn blocked side positive negative someCorner spans crossed every cellsFree rowWall columnWall between edgesOpen sees
+unfolding unitsOf root rootIn blocked side positive negative someCorner spans crossed every cellsFree rowWall columnWall between edgesOpen pinched strictlyInside verticesOpen sees admitted
     neighbours visible turns initial sooner least choose wins around close expand search trail problem firstBad boardRows endRows workRow searchRow routeRow
 examples = (refl, refl, refl)

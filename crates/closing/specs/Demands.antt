@@ -1,4 +1,5 @@
--- Document 01's three demands, and what a search leaves in the work slices: of what the route call hands back and leaves.
+-- Document 01's three demands, what a search leaves in the work slices, and where a path may have pinched vertices (document 02,
+-- item 6): of what the route call hands back and leaves.
 -- That every call keeps them, and every call from C: proofs/Closing.antt.
 use Prim.Native.Nat.{ℕ, _*_, _≤_, _<_}
 use mathlib.Core.Path.{_≡_}
@@ -10,7 +11,7 @@ use Rattle.board.specs.Board.{Board, vertices, number}
 use Rattle.board.specs.Handed.{Handed}
 use Rattle.reach.specs.Turns.{at}
 use Rattle.theta.specs.Search.{State, search, path}
-use Rattle.problem.specs.Problem.{problem}
+use Rattle.problem.specs.Problem.{problem, Unpinched}
 use Rattle.router.specs.Answers.{Route, noRoute, Slices}
 use Rattle.router.specs.Demands.{Joined, Rightly}
 use Rattle.told.specs.declared.Found.{Found}
@@ -128,6 +129,12 @@ pub record Left (b : Board) (sx sy gx gy : ℕ) (after : Slices) (h : Handed Rou
   pub goal-open : h .number ≢ 8 → at (after .marks) (number b gx gy) ≡ 1
   pub none-open : h .number ≡ 8 → (v : ℕ) → v < vertices b → at (after .marks) v ≢ 1
   pub expanded : h .number ≡ 8 → (v : ℕ) → v < vertices b → (at (after .marks) v ≡ 2) ↔ Joined b sx sy gx gy v
+
+-- ---- pinched vertices (document 02, item 6)
+
+-- with 0, of the path's vertices only the first and the last may be pinched, and no leg has a pinched vertex strictly inside it
+abbrev pub KeepsClear : (b : Board) (after : Slices) (h : Handed Route) → Type 0
+KeepsClear b after h = h .number ≡ 0 → Unpinched b (take (h .values .vertices) (after .path))
 
 -- ---- for C
 

@@ -37,6 +37,27 @@ pub record Within (a b p : ℕ) : Type 0 where
   pub low : min a b ≤ p
   pub high : p ≤ max a b
 
+-- such a coordinate lies some steps from a, and a vertex some steps from a is such a coordinate
+pub vertex-of : (a b p : ℕ) → Within a b p → (vertexAt a b (far a p) ≡ p) × (far a p ≤ far a b)
+vertex-of a b p w =
+    ⊎-elim (λ (l : a < b). rising (omega (arith, w .low)) (omega (arith, w .high)) l)
+    (λ (g : b ≤ a). falling (omega (arith, w .low)) (omega (arith, w .high)) g) (order a b)
+  where
+    rising : a ≤ p → p ≤ b → a < b → (vertexAt a b (far a p) ≡ p) × (far a p ≤ far a b)
+    rising h k l = (omega (arith, vertex-up a b (far a p) l), omega arith)
+
+    falling : b ≤ p → p ≤ a → b ≤ a → (vertexAt a b (far a p) ≡ p) × (far a p ≤ far a b)
+    falling h k l = (omega (arith, vertex-down a b (far a p) l), omega arith)
+
+pub vertex-far : (a b s : ℕ) → s ≤ far a b → far a (vertexAt a b s) ≡ s
+vertex-far a b s h =
+    ⊎-elim (λ (l : a < b). omega (arith, vertex-up a b s l)) (λ (g : b ≤ a). omega (arith, vertex-down a b s g)) (order a b)
+
+pub vertex-within : (a b s : ℕ) → s ≤ far a b → Within a b (vertexAt a b s)
+vertex-within a b s h =
+    ⊎-elim (λ (l : a < b). let e = vertex-up a b s l in record { low = omega arith; high = omega arith })
+    (λ (g : b ≤ a). let e = vertex-down a b s g in record { low = omega arith; high = omega arith }) (order a b)
+
 -- what the cell between the vertices s and s + 1 steps from a is known to be
 module _ (a b s : ℕ) (hs : s < far a b) where
   -- a corner of it

@@ -21,11 +21,11 @@ areas : (x y z w n t : ℕ) → x ≡ y + n → z ≡ w + t → x * z + y * w �
 areas x y z w n t e f = rw (e, f) (omega arith)
 
 -- what is added to the side and what is taken away, or the other way round
-abbrev Height : (over under : ℕ → ℕ → ℕ) (ax ay bx by : ℕ) → Type 0
+abbrev pub Height : (over under : ℕ → ℕ → ℕ) (ax ay bx by : ℕ) → Type 0
 Height over under ax ay bx by =
     (px py : ℕ) → Within ax bx px → Within ay by py → over px py + far ay by * far ax px ≡ under px py + far ax bx * far ay py
 
-heights : (ax ay bx by : ℕ) → Height (plus ax ay bx by) (minus ax ay bx by) ax ay bx by ⊎ Height (minus ax ay bx by) (plus ax ay bx by) ax ay bx by
+pub heights : (ax ay bx by : ℕ) → Height (plus ax ay bx by) (minus ax ay bx by) ax ay bx by ⊎ Height (minus ax ay bx by) (plus ax ay bx by) ax ay bx by
 unfolding plus minus
 heights ax ay bx by =
     ⊎-elim
@@ -185,3 +185,9 @@ module _ (ax ay bx by u v : ℕ) (hu : u < far ax bx) (hv : v < far ay by) where
       let Y = axis-spans ay by v hv in
       and-both (both-sides h)
       (and-both (and-both (lt-ltb _ _ (X .0)) (lt-ltb _ _ (X .1))) (and-both (lt-ltb _ _ (Y .0)) (lt-ltb _ _ (Y .1))))
+
+-- a horizontal or vertical leg crosses no cell
+pub axis-uncrossed : (ax ay bx by i j : ℕ) → (ax ≡ bx) ⊎ (ay ≡ by) → crossed ax ay bx by i j ≡ true → ⊥
+axis-uncrossed ax ay bx by i j z x =
+    let o = cross-placed ax ay bx by i j x in
+    ⊎-elim (λ (e : ax ≡ bx). omega (arith, o .0 .1)) (λ (e : ay ≡ by). omega (arith, o .1 .1)) z

@@ -2,6 +2,8 @@ pub mod Corners
 pub mod Axis
 pub mod Sides
 pub mod Crossing
+pub mod Inside
+pub mod Pinches
 pub mod First
 pub mod Points
 pub mod Seen

@@ -1,22 +1,22 @@
 -- Sight between neighbours in closed form: a diagonal step needs its one cell free, a step along an axis one of two. Assumes nothing.
 use Prim.Native.Nat.{ℕ, _+_, _≤_, _<_, min}
-use mathlib.Core.Path.{_≡_, sym, _∙_}
+use mathlib.Core.Path.{_≡_, refl, sym, ap, _∙_}
 use mathlib.Core.Logic.{⊎-elim}
 use mathlib.Core.Bool.{Bool, true, false, not, _&&_}
 use native.Mathlib.Omega.{arith}
 use borrow.Author.Tests.{leb-true, eq-eqb}
 use lib.Dec.{leb, eqb}
-use Rattle.laws.specs.Below.{every}
 use Rattle.laws.proofs.Tests.{order, and-left, and-right, not-both}
 use Rattle.board.specs.Board.{Board, blocked}
 use Rattle.legs.specs.Sight.{crossed, rowWall, columnWall, sees}
-use Rattle.legs.specs.Leg.{far, cellAt}
-use Rattle.legs.specs.Stops.{walled}
+use Rattle.legs.specs.Leg.{far, vertexAt, cellAt}
+use Rattle.legs.specs.Stops.{isClear, firstOf, cellStop, placeStop, columnStop, cellsStop, walled, edgeStop, stepStop, edgesStop}
 use Rattle.legs.specs.Neighbours.{nextTo, neighbours}
 use Rattle.legs.specs.Inner.{EndsOn}
 use Rattle.legs.proofs.Axis.{cell-up, cell-down}
 use Rattle.legs.proofs.Crossing.{cross-in}
-use Rattle.legs.proofs.Seen.{sees-clear, edges-every, cells-every, level-stop, upright-stop, slanted-stop}
+use Rattle.legs.proofs.First.{cond-clear, edge-stops, start-clear, first-corner, level-stop, upright-stop, slanted-stop}
+use Rattle.legs.proofs.Nearest.{sees-clear}
 
 -- one step along an axis, by its cell
 step-cell : (a b : ℕ) → far a b ≡ 1 → cellAt a b 0 ≡ min a b
@@ -24,26 +24,31 @@ step-cell a b e =
     ⊎-elim (λ (l : a < b). omega (arith, cell-up a b 0 l)) (λ (g : b ≤ a). omega (arith, cell-down a b 0 g)) (order a b)
 
 module _ (b : Board) (ax ay bx by : ℕ) (on : EndsOn b ax ay bx by) where
+  -- the one step of a leg along an axis: its first end does not stop it, and so its edge decides
+  step-clear : (level : Bool) (c p q : ℕ) → far p q ≡ 1
+      → isClear (edgesStop b level c p q) ≡ not (walled b level c (min p q))
+  unfolding edgesStop stepStop edgeStop firstOf
+  step-clear level c p q e =
+      rw (e, first-corner b level c p q, step-cell p q e)
+      (cond-clear (walled b level c (min p q)) _ (edge-stops level c (vertexAt p q 0) (vertexAt p q 1)))
+
   pub level-step : ay ≡ by → far ax bx ≡ 1 → sees b ax ay bx by ≡ not (rowWall b (min ax bx) ay)
-  unfolding every walled
-  level-step e f =
-      sees-clear b ax ay bx by on
-      ∙ rw (level-stop b ax ay bx by e) (edges-every b true ay ax bx ∙ rw (f, step-cell ax bx f))
+  unfolding walled
+  level-step e f = sees-clear b ax ay bx by on ∙ ap isClear (level-stop b ax ay bx by e) ∙ step-clear true ay ax bx f
 
   pub upright-step : ax ≡ bx → far ay by ≡ 1 → sees b ax ay bx by ≡ not (columnWall b ax (min ay by))
-  unfolding every walled
+  unfolding walled
   upright-step e f =
-      sees-clear b ax ay bx by on
-      ∙ rw (upright-stop b ax ay bx by (λ h. omega arith) e) (edges-every b false ax ay by ∙ rw (f, step-cell ay by f))
+      sees-clear b ax ay bx by on ∙ ap isClear (upright-stop b ax ay bx by (λ h. omega arith) e) ∙ step-clear false ax ay by f
 
   pub diagonal-step : far ax bx ≡ 1 → far ay by ≡ 1 → sees b ax ay bx by ≡ not (blocked b (min ax bx) (min ay by))
-  unfolding every
+  unfolding cellsStop columnStop placeStop cellStop firstOf
   diagonal-step e f =
       let x : crossed ax ay bx by (cellAt ax bx 0) (cellAt ay by 0) ≡ true =
       cross-in ax ay bx by 0 0 (omega arith) (omega arith) (omega arith, omega arith) in
-      sees-clear b ax ay bx by on
-      ∙ rw (slanted-stop b ax ay bx by (λ h. omega arith) (λ h. omega arith))
-      (cells-every b ax ay bx by ∙ rw (e, f, x, step-cell ax bx e, step-cell ay by f))
+      sees-clear b ax ay bx by on ∙ ap isClear (slanted-stop b ax ay bx by (λ h. omega arith) (λ h. omega arith))
+      ∙ rw (e, f, start-clear b ax ay bx by, x, step-cell ax bx e, step-cell ay by f)
+      (cond-clear (blocked b (min ax bx) (min ay by)) _ refl)
 
   -- and so from the answer for the one cell of a diagonal step
   pub diagonal-read : {r : Bool} {x y : ℕ} → r ≡ blocked b x y → x ≡ min ax bx → y ≡ min ay by → far ax bx ≡ 1 → far ay by ≡ 1 → not r ≡ sees b ax ay bx by

@@ -1,22 +1,35 @@
--- The points of a leg, counted in columns or rows from its first end: a cell is crossed exactly if one of them lies in it. Assumes nothing.
+-- The points of a leg, counted in columns or rows from its first end: a cell is crossed exactly if one of them lies
+-- in it, and a vertex lies strictly inside exactly if it is one of them but no end. Assumes nothing.
 use Prim.Native.Nat.{ℕ, _+_, _*_, _-_, _≤_, _<_, min, max}
 use mathlib.Core.Path.{_≡_, refl, ap, subst₂}
 use mathlib.Core.Logic.{⊎-elim}
 use mathlib.Core.Bool.{true}
-use native.Mathlib.Nat.{mul-le-mul-left, mul-le-mul-right, mul-lt-mul-of-pos-left, mul-lt-mul-of-pos-right, lt-of-mul-lt-mul-left, lt-of-mul-lt-mul-right}
+use native.Mathlib.Nat.{mul-le-mul-left, mul-le-mul-right, mul-lt-mul-of-pos-left, mul-lt-mul-of-pos-right, lt-of-mul-lt-mul-left, lt-of-mul-lt-mul-right, le-of-mul-le-mul-right, eq-of-mul-eq-mul-right}
 use native.Mathlib.Omega.{arith}
 use Rattle.laws.proofs.Tests.{order}
-use Rattle.legs.specs.declared.Stop.the-variants.{Cell}
-use Rattle.legs.specs.Sight.{crossed}
-use Rattle.legs.specs.Leg.{far, cellAt}
+use Rattle.legs.specs.declared.Stop.the-variants.{Cell, Vertex}
+use Rattle.legs.specs.Sight.{crossed, strictlyInside}
+use Rattle.legs.specs.Leg.{far, vertexAt, cellAt}
 use Rattle.legs.specs.Nearer.{Point, parts, along, Nearer, Strictly, Meets}
-use Rattle.legs.proofs.Axis.{cell-up, cell-down, axis-of}
+use Rattle.legs.proofs.Axis.{cell-up, cell-down, vertex-up, vertex-down, Within, vertex-of, axis-of}
 use Rattle.legs.proofs.Crossing.{Crosses, cross-placed, cross-in, cross-out}
+use Rattle.legs.proofs.Inside.{Through, inside-out, inside-in}
 
 -- at the point a leg of n steps has gone more than s of them and fewer than s + 1
 pub record Gone (n s : ℕ) (p : Point) : Type 0 where
   pub more : s * parts p < n * p .before
   pub fewer : n * p .before < (s + 1) * parts p
+
+-- or s of them and not yet s + 1
+pub record Reached (n s : ℕ) (p : Point) : Type 0 where
+  pub some : s * parts p ≤ n * p .before
+  pub fewer : n * p .before < (s + 1) * parts p
+
+pub gone-reached : {n s : ℕ} {p : Point} → Gone n s p → Reached n s p
+gone-reached g = record { some = omega (arith, g .more); fewer = g .fewer }
+
+pub exactly-reached : {n s : ℕ} (p : Point) → n * p .before ≡ s * parts p → Reached n s p
+exactly-reached p e = record { some = omega (arith, e); fewer = omega (arith, e, p .some) }
 
 -- ---- one axis, from a to b
 
@@ -56,6 +69,26 @@ module _ (a b s c d : ℕ) (hs : s < far a b) (low : min c d ≡ cellAt a b s) (
       ⊎-elim (λ (e : a < b). let r = rising e in (omega (arith, r, h), omega (arith, r, h)))
       (λ (e : b ≤ a). let r = falling e in (omega (arith, r, h), omega (arith, r, h))) (order a b)
 
+-- the point is the vertex s steps from a exactly if the leg has gone just s steps there
+module _ (a b s : ℕ) (hs : s ≤ far a b) (p : Point) where
+  vertex-rising : a < b
+      → (along a b p ≡ a * parts p + far a b * p .before) × (vertexAt a b s * parts p ≡ a * parts p + s * parts p)
+  vertex-rising e = (weigh-up a b (far a b) (p .before) (p .behind) (omega arith), rw (vertex-up a b s e) (omega arith))
+
+  vertex-falling : b ≤ a
+      → (along a b p + far a b * p .before ≡ a * parts p) × (a * parts p ≡ vertexAt a b s * parts p + s * parts p)
+  vertex-falling e =
+      let f : a ≡ vertexAt a b s + s = omega (arith, vertex-down a b s e) in
+      (weigh-down a b (far a b) (p .before) (p .behind) (omega arith), omega (arith, ap (λ (z : ℕ). z * parts p) f))
+
+  pub exactly-out : along a b p ≡ vertexAt a b s * parts p → far a b * p .before ≡ s * parts p
+  exactly-out h =
+      ⊎-elim (λ (e : a < b). omega (arith, vertex-rising e, h)) (λ (e : b ≤ a). omega (arith, vertex-falling e, h)) (order a b)
+
+  pub exactly-in : far a b * p .before ≡ s * parts p → along a b p ≡ vertexAt a b s * parts p
+  exactly-in h =
+      ⊎-elim (λ (e : a < b). omega (arith, vertex-rising e, h)) (λ (e : b ≤ a). omega (arith, vertex-falling e, h)) (order a b)
+
 -- the coordinate of a point is no less than the lesser end's, and no more than the greater's
 along-span : (a b : ℕ) (p : Point) → (min a b * parts p ≤ along a b p) × (along a b p ≤ max a b * parts p)
 along-span a b p =
@@ -80,14 +113,19 @@ in-placed a b i p h =
 -- ---- which point is nearer
 
 -- fewer steps gone
-pub gone-nearer : {n s t : ℕ} {p q : Point} → Gone n s p → Gone n t q → s < t → Nearer p q
-gone-nearer {n} {s} {t} {p} {q} g h l =
+pub reached-nearer : {n s t : ℕ} {p q : Point} → Reached n s p → Reached n t q → s < t → Nearer p q
+reached-nearer {n} {s} {t} {p} {q} g h l =
     lt-of-mul-lt-mul-left n (omega (
       arith,
       mul-lt-mul-of-pos-right (g .fewer) (q .some),
       mul-le-mul-right (parts p * parts q) l,
-      mul-lt-mul-of-pos-right (h .more) (p .some),
+      mul-le-mul-right (parts p) (h .some),
     ))
+
+-- or just as many, and more than those
+pub exactly-nearer : {n s : ℕ} (p : Point) {q : Point} → n * p .before ≡ s * parts p → Gone n s q → Nearer p q
+exactly-nearer {n} {s} p {q} e h =
+    lt-of-mul-lt-mul-left n (omega (arith, ap (λ (z : ℕ). z * parts q) e, mul-lt-mul-of-pos-right (h .more) (p .some)))
 
 -- and not both ways
 pub nearer-asym : (p q : Point) → Nearer p q → Nearer q p → ⊥
@@ -171,3 +209,61 @@ module _ (ax ay bx by i j : ℕ) where
       let y : crossed ax ay bx by (cellAt ax bx u) (cellAt ay by v) ≡ true = rw (ei, ej) x in
       let (p, g, k) = crosses-gone n m u v hu hv (cross-out ax ay bx by u v hu hv y) in
       (p, cell-met u v hu hv ei ej p g k)
+
+-- ---- a vertex strictly inside a leg is a point of it
+
+module _ (ax ay bx by x y : ℕ) where
+  -- the point lies so many columns and so many rows on
+  pub vertex-exactly : strictlyInside ax ay bx by x y ≡ true → (p : Point) → Meets ax ay bx by p (Vertex x y)
+      → (far ax bx * p .before ≡ far ax x * parts p) × (far ay by * p .before ≡ far ay y * parts p)
+  vertex-exactly i p h =
+      let (t, ex, ey) = inside-out ax ay bx by x y i in (
+        exactly-out ax bx (far ax x) (t .u-on) p (rw ex (h .0)),
+        exactly-out ay by (far ay y) (t .v-on) p (rw ey (h .1)),
+      )
+
+  pub inside-met : strictlyInside ax ay bx by x y ≡ true → (p : Point) × Meets ax ay bx by p (Vertex x y)
+  inside-met i =
+      let (t, ex, ey) = inside-out ax ay bx by x y i in
+      let (p, g, h) = through-point t in
+      (p, (rw ex at (exactly-in ax bx (far ax x) (t .u-on) p g), rw ey at (exactly-in ay by (far ay y) (t .v-on) p h)))
+    where
+      -- of its n + m parts, those before it are its columns and its rows
+      through-point : {n m u v : ℕ} → Through n m u v → (p : Point) × (n * p .before ≡ u * parts p) × (m * p .before ≡ v * parts p)
+      through-point {n} {m} {u} {v} t =
+          let p : Point = record { before = u + v; behind = (n + m) - (u + v); some = omega (arith, t .begun) } in
+          let e : parts p ≡ n + m = omega (arith, t .unended) in
+          (p, rw e (omega (arith, t .on)), rw e (omega (arith, t .on)))
+
+-- and every vertex that is a point of the leg between its ends, where these differ, lies strictly inside
+
+-- its coordinates are the ends' or between
+point-within : (a b x : ℕ) (p : Point) → along a b p ≡ x * parts p → Within a b x
+point-within a b x p e =
+    let (l, m) = along-span a b p in
+    record { low = le-of-mul-le-mul-right (omega (arith, l, e)) (p .some); high = le-of-mul-le-mul-right (omega (arith, m, e)) (p .some) }
+
+-- and the leg goes through it
+point-through : (n m u v : ℕ) (p : Point) → u ≤ n → v ≤ m → 0 < p .before → 0 < p .behind → 0 < n + m
+    → n * p .before ≡ u * parts p → m * p .before ≡ v * parts p → Through n m u v
+point-through n m u v p hu hv begun left some e f =
+    let whole : ℕ = parts p in
+    let same : (m * u) * whole ≡ (n * v) * whole = omega (arith, ap (λ (z : ℕ). m * z) e, ap (λ (z : ℕ). n * z) f) in
+    record {
+      on = eq-of-mul-eq-mul-right whole (p .some) (m * u) (n * v) same;
+      u-on = hu;
+      v-on = hv;
+      begun = lt-of-mul-lt-mul-right whole (omega (arith, e, f, mul-le-mul-left (n + m) begun));
+      unended = lt-of-mul-lt-mul-right whole (omega (arith, e, f, mul-le-mul-left (n + m) left));
+    }
+
+module _ (ax ay bx by x y : ℕ) where
+  pub met-inside : (p : Point) → 0 < p .before → 0 < p .behind → 0 < far ax bx + far ay by → Meets ax ay bx by p (Vertex x y)
+      → strictlyInside ax ay bx by x y ≡ true
+  met-inside p begun left some h =
+      let (ex, hx) = vertex-of ax bx x (point-within ax bx x p (h .0)) in
+      let (ey, hy) = vertex-of ay by y (point-within ay by y p (h .1)) in
+      let e = exactly-out ax bx (far ax x) hx p (rw ex (h .0)) in
+      let f = exactly-out ay by (far ay y) hy p (rw ey (h .1)) in
+      subst₂ (λ (x y : ℕ). strictlyInside ax ay bx by x y ≡ true) ex ey
+      (inside-in ax ay bx by (far ax x) (far ay y) (point-through (far ax bx) (far ay by) (far ax x) (far ay y) p hx hy begun left some e f))

@@ -1,162 +1,142 @@
--- A leg has sight exactly if nothing stops it. Assumes nothing.
-use Prim.Native.Nat.{ℕ, _+_, _≤_, _<_, min, max}
-use mathlib.Core.Path.{_≡_, refl, sym, _∙_, subst, subst₂}
-use mathlib.Core.Logic.{_⊎_, inl, inr, ⊎-elim}
-use mathlib.Core.Bool.{Bool, true, false, not, _&&_, and-true, false≢true}
+-- A leg has sight exactly if nothing blocks it. Assumes nothing.
+use Prim.Native.Nat.{ℕ, _+_, _≤_, _<_, min}
+use mathlib.Core.Path.{_≡_, refl}
+use mathlib.Core.Logic.{inl}
+use mathlib.Core.Bool.{Bool, true, false, not, _&&_, _||_, false≢true}
 use native.Mathlib.Omega.{arith}
-use borrow.Author.Tests.{lt-ltb, le-leb, ltb-true, leb-true, eqb-true, eq-eqb, ne-eqb, not-true}
-use lib.Dec.{ltb, leb, eqb}
+use borrow.Author.Tests.{lt-ltb, ltb-true, eqb-true, eq-eqb}
+use lib.Dec.{ltb, eqb}
 use Rattle.laws.specs.Below.{every}
 use Rattle.laws.proofs.Below.{every-at, every-of}
-use Rattle.laws.proofs.Tests.{and-both, and-left, and-right, not-both, same-test, not-of}
+use Rattle.laws.proofs.Tests.{and-both, and-left, and-right, not-both, not-of}
 use Rattle.board.specs.Board.{Board, isCell, blocked}
-use Rattle.legs.specs.declared.Stop.the-variants.{Cell}
-use Rattle.legs.specs.Sight.{crossed, rowWall, columnWall, between, cellsFree, edgesOpen, sees}
-use Rattle.legs.specs.Leg.{far, cellAt, vertexAt}
-use Rattle.legs.specs.Stops.{isClear, cellStop, columnStop, cellsStop, walled, edgeFrom, edgeStop, edgesStop, firstStop}
+use Rattle.legs.specs.declared.Stop.{Stop}
+use Rattle.legs.specs.declared.Stop.the-variants.{Cell, Edge, Vertex}
+use Rattle.legs.specs.Pinched.{pinched}
+use Rattle.legs.specs.Sight.{crossed, rowWall, columnWall, between, cellsFree, edgesOpen, strictlyInside, verticesOpen, sees}
+use Rattle.legs.specs.Nearer.{Blocks, cell, level, upright, vertex}
 use Rattle.legs.specs.Inner.{EndsOn}
-use Rattle.legs.proofs.Axis.{axis-spans, axis-on, axis-of}
-use Rattle.legs.proofs.Crossing.{cross-placed}
-use Rattle.legs.proofs.First.{first-every, cond-clear, edge-stops}
+use Rattle.legs.proofs.Axis.{axis-on}
+use Rattle.legs.proofs.Crossing.{cross-placed, axis-uncrossed}
+use Rattle.legs.proofs.Inside.{none-inside}
+use Rattle.legs.proofs.Pinches.{pinched-inside}
+use Rattle.legs.proofs.UnitEdges.{between-out, edge-of, no-unit-edge}
 
--- ---- what stops a leg, as tests in steps from the first end
+-- ---- the unit edges of a leg whose ends have one coordinate in common, if they have
 
-module _ (b : Board) where
-  pub edges-every : (level : Bool) (c p q : ℕ) → isClear (edgesStop b level c p q) ≡ every (far p q) (λ (u : ℕ). not (walled b level c (cellAt p q u)))
-  unfolding edgesStop edgeStop
-  edges-every level c p q =
-      first-every (far p q) _ _ (λ u.
-      cond-clear (walled b level c (cellAt p q u)) (edgeFrom level c (vertexAt p q u) (vertexAt p q (u + 1)))
-      (edge-stops level c (vertexAt p q u) (vertexAt p q (u + 1))))
+open-at : (same : Bool) (p q size : ℕ) (wall : ℕ → Bool)
+    → (not same || every size (λ (k : ℕ). not (between p q k && wall k))) ≡ true
+    → same ≡ true → (k : ℕ) → k < size → between p q k ≡ true → wall k ≡ true → ⊥
+open-at true p q size wall h e k l = not-both (between p q k) (wall k) (every-at _ size h k l)
+open-at false p q size wall h e k l = absurd (false≢true e)
 
-  pub cells-every : (ax ay bx by : ℕ) → isClear (cellsStop b ax ay bx by) ≡ every (far ax bx) (λ (u : ℕ). every (far ay by) (λ (v : ℕ). not (crossed ax ay bx by (cellAt ax bx u) (cellAt ay by v) && blocked b (cellAt ax bx u) (cellAt ay by v))))
-  unfolding cellsStop columnStop cellStop
-  cells-every ax ay bx by =
-      first-every (far ax bx) _ _ (λ u. first-every (far ay by) _ _ (λ v.
-      let i : ℕ = cellAt ax bx u in
-      let j : ℕ = cellAt ay by v in
-      cond-clear (crossed ax ay bx by i j && blocked b i j) (Cell i j) refl))
+open-of : (same : Bool) (p q size : ℕ) (wall : ℕ → Bool) → (same ≡ true → (k : ℕ) → between p q k ≡ true → wall k ≡ true → ⊥)
+    → (not same || every size (λ (k : ℕ). not (between p q k && wall k))) ≡ true
+open-of true p q size wall none =
+    every-of _ size (λ k l. not-of (between p q k && wall k) (λ w.
+    none refl k (and-left (between p q k) (wall k) w) (and-right (between p q k) (wall k) w)))
+open-of false p q size wall none = refl
 
--- ---- the first stop in each direction
+edge-on : (p q k size : ℕ) → between p q k ≡ true → p ≤ size → q ≤ size → k < size
+edge-on p q k size e hp hq = omega (arith, between-out p q k e)
 
 module _ (b : Board) (ax ay bx by : ℕ) where
-  pub level-stop : ay ≡ by → firstStop b ax ay bx by ≡ edgesStop b true ay ax bx
-  unfolding firstStop
-  level-stop e = rw (eq-eqb ay by e)
+  abbrev levelOpen : Bool
+  levelOpen = not (eqb ay by) || every (b .width) (λ (x : ℕ). not (between ax bx x && rowWall b x ay))
 
-  pub upright-stop : (ay ≡ by → ⊥) → ax ≡ bx → firstStop b ax ay bx by ≡ edgesStop b false ax ay by
-  unfolding firstStop
-  upright-stop n e = rw (ne-eqb ay by n, eq-eqb ax bx e)
+  abbrev uprightOpen : Bool
+  uprightOpen = not (eqb ax bx) || every (b .height) (λ (y : ℕ). not (between ay by y && columnWall b ax y))
 
-  pub slanted-stop : (ay ≡ by → ⊥) → (ax ≡ bx → ⊥) → firstStop b ax ay bx by ≡ cellsStop b ax ay bx by
-  unfolding firstStop
-  slanted-stop n m = rw (ne-eqb ay by n, ne-eqb ax bx m)
-
--- ---- along one axis: the edges between p and q, and the steps from p
-
-pub between-out : (p q k : ℕ) → between p q k ≡ true → (min p q ≤ k) × (k < max p q)
-unfolding between
-between-out p q k h =
-    let s : Bool = leb (min p q) k in
-    let t : Bool = ltb k (max p q) in
-    (leb-true (min p q) k (and-left s t h), ltb-true k (max p q) (and-right s t h))
-
--- the unit edge at a cell of the leg is between its ends
-pub between-in : (p q u : ℕ) → u < far p q → between p q (cellAt p q u) ≡ true
-unfolding between
-between-in p q u l =
-    let s = axis-spans p q u l in
-    and-both (le-leb (min p q) (cellAt p q u) (omega (arith, s .0))) (lt-ltb (cellAt p q u) (max p q) (s .1))
-
-between-parts : (p q : ℕ) (wall : ℕ → Bool) (k : ℕ) → (between p q k && wall k) ≡ true → (min p q ≤ k) × (k < max p q) × (wall k ≡ true)
-between-parts p q wall k h =
-    let d = between-out p q k (and-left (between p q k) (wall k) h) in
-    (d .0, d .1, and-right (between p q k) (wall k) h)
-
--- no edge lies between equal ends
-no-edge : (p q size : ℕ) (wall : ℕ → Bool) → p ≡ q → every size (λ (k : ℕ). not (between p q k && wall k)) ≡ true
-no-edge p q size wall e =
-    every-of _ size (λ k l. not-of (between p q k && wall k) (λ w.
-    let d = between-parts p q wall k w in
-    omega (arith, d .0, d .1)))
-
-module _ (p q size : ℕ) (wall : ℕ → Bool) (hp : p ≤ size) (hq : q ≤ size) where
-  steps-every : every size (λ (k : ℕ). not (between p q k && wall k)) ≡ every (far p q) (λ (u : ℕ). not (wall (cellAt p q u)))
-  steps-every =
-      same-test _ _
-      (λ h. every-of _ (far p q) (λ u l. not-of (wall (cellAt p q u)) (λ w.
-      not-both (between p q (cellAt p q u)) (wall (cellAt p q u)) (every-at _ size h (cellAt p q u) (axis-on p q u l size hp hq))
-      (between-in p q u l) w)))
-      (λ h. every-of _ size (λ k l. not-of (between p q k && wall k) (λ w.
-      let d = between-parts p q wall k w in
-      let o = axis-of p q k (omega (arith, d .0)) (d .1) in
-      let n : not (wall k) ≡ true = subst (λ (z : ℕ). not (wall z) ≡ true) (o .2) (every-at _ (far p q) h (o .0) (o .1)) in
-      false≢true (sym (not-true (wall k) n) ∙ d .2))))
-
--- ---- the leg
-
--- a horizontal or vertical leg crosses no cell
-pub axis-uncrossed : (ax ay bx by i j : ℕ) → (ax ≡ bx) ⊎ (ay ≡ by) → crossed ax ay bx by i j ≡ true → ⊥
-axis-uncrossed ax ay bx by i j z x =
-    let o = cross-placed ax ay bx by i j x in
-    ⊎-elim (λ (e : ax ≡ bx). omega (arith, o .0 .1)) (λ (e : ay ≡ by). omega (arith, o .1 .1)) z
-
-axis-free : (b : Board) (ax ay bx by : ℕ) → (ax ≡ bx) ⊎ (ay ≡ by) → cellsFree b ax ay bx by ≡ true
-unfolding cellsFree
-axis-free b ax ay bx by z =
-    every-of _ (b .height) (λ j hj. every-of _ (b .width) (λ i hi. not-of (crossed ax ay bx by i j && blocked b i j) (λ q.
-    axis-uncrossed ax ay bx by i j z (and-left (crossed ax ay bx by i j) (blocked b i j) q))))
-
-module _ (b : Board) (ax ay bx by : ℕ) (on : EndsOn b ax ay bx by) where
-  -- it crosses no cell outside the board
-  pub crossed-on-board : (i j : ℕ) → crossed ax ay bx by i j ≡ true → isCell b i j ≡ true
-  crossed-on-board i j x =
+  -- a leg between vertices of the board crosses no cell outside it
+  pub crossed-on-board : EndsOn b ax ay bx by → (i j : ℕ) → crossed ax ay bx by i j ≡ true → isCell b i j ≡ true
+  crossed-on-board on i j x =
       let ((u, hu, ei), (v, hv, ej)) = cross-placed ax ay bx by i j x in
       and-both (lt-ltb i (b .width) (rw ei at (axis-on ax bx u hu (b .width) (on .first .x-on) (on .second .x-on))))
       (lt-ltb j (b .height) (rw ej at (axis-on ay by v hv (b .height) (on .first .y-on) (on .second .y-on))))
 
-  cells-same : cellsFree b ax ay bx by ≡ isClear (cellsStop b ax ay bx by)
-  unfolding cellsFree
-  cells-same =
-      same-test _ _
-      (λ e. subst (λ (t : Bool). t ≡ true) (sym (cells-every b ax ay bx by))
-      (every-of _ (far ax bx) (λ u hu. every-of _ (far ay by) (λ v hv.
-      every-at _ (b .width)
-      (every-at _ (b .height) e (cellAt ay by v) (axis-on ay by v hv (b .height) (on .first .y-on) (on .second .y-on)))
-      (cellAt ax bx u) (axis-on ax bx u hu (b .width) (on .first .x-on) (on .second .x-on))))))
-      (λ e. let f = subst (λ (t : Bool). t ≡ true) (cells-every b ax ay bx by) e in
-      every-of _ (b .height) (λ j hj. every-of _ (b .width) (λ i hi. not-of (crossed ax ay bx by i j && blocked b i j) (λ q.
-      let x = and-left (crossed ax ay bx by i j) (blocked b i j) q in
-      let y = and-right (crossed ax ay bx by i j) (blocked b i j) q in
-      let o = cross-placed ax ay bx by i j x in
-      not-both (crossed ax ay bx by i j) (blocked b i j)
-      (subst₂ (λ (i j : ℕ). not (crossed ax ay bx by i j && blocked b i j) ≡ true) (o .0 .2) (o .1 .2)
-      (every-at _ (far ay by) (every-at _ (far ax bx) f (o .0 .0) (o .0 .1)) (o .1 .0) (o .1 .1))) x y))))
+  -- ---- a leg with sight
 
-  row-same : every (b .width) (λ (x : ℕ). not (between ax bx x && rowWall b x ay)) ≡ isClear (edgesStop b true ay ax bx)
-  unfolding walled
-  row-same =
-      steps-every ax bx (b .width) (λ (x : ℕ). rowWall b x ay) (on .first .x-on) (on .second .x-on)
-      ∙ sym (edges-every b true ay ax bx)
+  module _ (h : sees b ax ay bx by ≡ true) where
+    parts : (cellsFree b ax ay bx by ≡ true) × (levelOpen ≡ true) × (uprightOpen ≡ true) × (verticesOpen b ax ay bx by ≡ true)
+    unfolding sees edgesOpen
+    parts =
+        let c : Bool = cellsFree b ax ay bx by in
+        let v : Bool = verticesOpen b ax ay bx by in
+        let l = and-left (c && (levelOpen && uprightOpen)) v h in
+        let e = and-right c (levelOpen && uprightOpen) l in
+        let w = and-right (c && (levelOpen && uprightOpen)) v h in
+        (and-left c (levelOpen && uprightOpen) l, and-left levelOpen uprightOpen e, and-right levelOpen uprightOpen e, w)
 
-  column-same : every (b .height) (λ (y : ℕ). not (between ay by y && columnWall b ax y)) ≡ isClear (edgesStop b false ax ay by)
-  unfolding walled
-  column-same =
-      steps-every ay by (b .height) (λ (y : ℕ). columnWall b ax y) (on .first .y-on) (on .second .y-on)
-      ∙ sym (edges-every b false ax ay by)
+    -- it has no pinched vertex strictly inside
+    pub inside-unpinched : (x y : ℕ) → strictlyInside ax ay bx by x y ≡ true → pinched b x y ≡ true → ⊥
+    unfolding verticesOpen
+    inside-unpinched x y i w =
+        let (hx, hy) = pinched-inside b x y w in
+        not-both (strictlyInside ax ay bx by x y) (pinched b x y)
+        (every-at _ (b .width + 1) (every-at _ (b .height + 1) (parts .3) y (omega arith)) x (omega arith)) i w
 
-  by-cases : (p q : Bool) → eqb ay by ≡ p → eqb ax bx ≡ q → sees b ax ay bx by ≡ isClear (firstStop b ax ay bx by)
-  unfolding sees edgesOpen firstStop
-  by-cases true true e f = rw (axis-free b ax ay bx by (inr (eqb-true ay by e)), e, f, no-edge ay by (b .height) (columnWall b ax) (eqb-true ay by e), and-true) row-same
-  by-cases true false e f = rw (axis-free b ax ay bx by (inr (eqb-true ay by e)), e, f, and-true) row-same
-  by-cases false true e f = rw (axis-free b ax ay bx by (inl (eqb-true ax bx f)), e, f) column-same
-  by-cases false false e f = rw (e, f, and-true) cells-same
+  module _ (on : EndsOn b ax ay bx by) (h : sees b ax ay bx by ≡ true) where
+    -- it crosses no blocked cell
+    cell-free : (i j : ℕ) → crossed ax ay bx by i j ≡ true → blocked b i j ≡ true → ⊥
+    unfolding cellsFree
+    cell-free i j x w =
+        let c = crossed-on-board on i j x in
+        let hi = ltb-true i (b .width) (and-left (ltb i (b .width)) (ltb j (b .height)) c) in
+        let hj = ltb-true j (b .height) (and-right (ltb i (b .width)) (ltb j (b .height)) c) in
+        not-both (crossed ax ay bx by i j) (blocked b i j)
+        (every-at _ (b .width) (every-at _ (b .height) (parts h .0) j hj) i hi) x w
 
-  pub sees-clear : sees b ax ay bx by ≡ isClear (firstStop b ax ay bx by)
-  sees-clear = by-cases (eqb ay by) (eqb ax bx) refl refl
+    pub sees-unblocked : (t : Stop) → Blocks b ax ay bx by t → ⊥
+    sees-unblocked _ (cell {i} {j} x w) = cell-free i j x w
+    sees-unblocked _ (level {p} {q} e edge w) =
+        let below = edge-on ax bx (min p q) (b .width) (edge .on) (on .first .x-on) (on .second .x-on) in
+        open-at (eqb ay by) ax bx (b .width) (λ (x : ℕ). rowWall b x ay) (parts h .1) (eq-eqb ay by e) (min p q) below (edge .on) w
+    sees-unblocked _ (upright {p} {q} e edge w) =
+        let below = edge-on ay by (min p q) (b .height) (edge .on) (on .first .y-on) (on .second .y-on) in
+        open-at (eqb ax bx) ay by (b .height) (columnWall b ax) (parts h .2) (eq-eqb ax bx e) (min p q) below (edge .on) w
+    sees-unblocked _ (vertex {x} {y} i w) = inside-unpinched h x y i w
+
+  -- ---- a leg that nothing blocks
+
+  module _ (none : (t : Stop) → Blocks b ax ay bx by t → ⊥) where
+    all-free : cellsFree b ax ay bx by ≡ true
+    unfolding cellsFree
+    all-free =
+        every-of _ (b .height) (λ j hj. every-of _ (b .width) (λ i hi.
+        let x : Bool = crossed ax ay bx by i j in
+        let w : Bool = blocked b i j in
+        not-of (x && w) (λ q. none (Cell i j) (cell (and-left x w q) (and-right x w q)))))
+
+    level-open : levelOpen ≡ true
+    level-open =
+        open-of (eqb ay by) ax bx (b .width) (λ (x : ℕ). rowWall b x ay) (λ e k h w.
+        let (p, q, edge, f) = edge-of ax bx k h in
+        none (Edge p ay q ay) (level (eqb-true ay by e) edge (rw f w)))
+
+    upright-open : uprightOpen ≡ true
+    upright-open =
+        open-of (eqb ax bx) ay by (b .height) (columnWall b ax) (λ e k h w.
+        let (p, q, edge, f) = edge-of ay by k h in
+        none (Edge ax p ax q) (upright (eqb-true ax bx e) edge (rw f w)))
+
+    all-unpinched : verticesOpen b ax ay bx by ≡ true
+    unfolding verticesOpen
+    all-unpinched =
+        every-of _ (b .height + 1) (λ y hy. every-of _ (b .width + 1) (λ x hx.
+        let i : Bool = strictlyInside ax ay bx by x y in
+        let w : Bool = pinched b x y in
+        not-of (i && w) (λ q. none (Vertex x y) (vertex (and-left i w q) (and-right i w q)))))
+
+    pub unblocked-sees : sees b ax ay bx by ≡ true
+    unfolding sees edgesOpen
+    unblocked-sees = and-both (and-both all-free (and-both level-open upright-open)) all-unpinched
 
 -- a vertex has sight of itself
 pub sees-itself : (b : Board) (x y : ℕ) → sees b x y x y ≡ true
-unfolding sees edgesOpen
-sees-itself b x y =
-    rw (axis-free b x y x y (inl refl), eq-eqb y y refl, eq-eqb x x refl, no-edge x x (b .width) (λ (k : ℕ). rowWall b k y) refl, no-edge y y (b .height) (columnWall b x) refl)
+sees-itself b x y = unblocked-sees b x y x y none
+  where
+    none : (t : Stop) → Blocks b x y x y t → ⊥
+    none _ (cell c w) = axis-uncrossed x y x y _ _ (inl refl) c
+    none _ (level e edge w) = no-unit-edge x x _ _ refl edge
+    none _ (upright e edge w) = no-unit-edge y y _ _ refl edge
+    none _ (vertex i w) = none-inside x y x y _ _ (omega arith) (omega arith) i

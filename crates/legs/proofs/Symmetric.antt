@@ -1,5 +1,5 @@
 -- Sight is the same from either end. Assumes nothing.
-use Prim.Native.Nat.{ℕ, min, max}
+use Prim.Native.Nat.{ℕ, _+_, min, max}
 use mathlib.Core.Path.{_≡_, refl, sym, _∙_}
 use mathlib.Core.Bool.{Bool, true, false, not, _&&_, _||_, and-comm}
 use native.Mathlib.Omega.{arith}
@@ -9,7 +9,7 @@ use Rattle.laws.specs.Below.{every}
 use Rattle.laws.proofs.Below.{every-same}
 use Rattle.laws.proofs.Tests.{same-test}
 use Rattle.board.specs.Board.{Board}
-use Rattle.legs.specs.Sight.{positive, negative, someCorner, spans, crossed, rowWall, columnWall, between, cellsFree, edgesOpen, sees}
+use Rattle.legs.specs.Sight.{positive, negative, someCorner, spans, crossed, rowWall, columnWall, between, cellsFree, edgesOpen, strictlyInside, verticesOpen, sees}
 use Rattle.legs.proofs.Corners.{corner-same}
 use Rattle.legs.proofs.Sides.{positive-is, negative-is, turned}
 
@@ -57,9 +57,31 @@ module _ (a b p q size : ℕ) (wall : ℕ → ℕ → Bool) where
       go true e = rw (sym (eqb-swap a b), e, sym (eqb-true a b e)) (every-same _ _ size (λ k. rw (between-swap p q k)))
       go false e = rw (sym (eqb-swap a b), e)
 
+-- a point lies strictly inside from either end
+inside-swap : (ax ay bx by x y : ℕ) → strictlyInside ax ay bx by x y ≡ strictlyInside bx by ax ay x y
+unfolding strictlyInside
+inside-swap ax ay bx by x y =
+    rw (
+      sides-swap ax ay bx by x y,
+      ← sides-swap bx by ax ay x y,
+      and-comm (not (negative bx by ax ay x y)) (not (positive bx by ax ay x y)),
+      min-swap ax bx,
+      max-swap ax bx,
+      min-swap ay by,
+      max-swap ay by,
+      and-comm (not (eqb x ax && eqb y ay)) (not (eqb x bx && eqb y by)),
+    )
+
 pub sees-symmetric : (b : Board) (ax ay bx by : ℕ) → sees b ax ay bx by ≡ sees b bx by ax ay
-unfolding sees cellsFree edgesOpen
+unfolding sees cellsFree edgesOpen verticesOpen
 sees-symmetric b ax ay bx by =
     let cells : cellsFree b ax ay bx by ≡ cellsFree b bx by ax ay =
     every-same _ _ (b .height) (λ j. every-same _ _ (b .width) (λ i. rw (crossed-swap ax ay bx by i j))) in
-    rw (cells, edges-swap ay by ax bx (b .width) (λ (y x : ℕ). rowWall b x y), edges-swap ax bx ay by (b .height) (λ (x y : ℕ). columnWall b x y))
+    let vertices : verticesOpen b ax ay bx by ≡ verticesOpen b bx by ax ay =
+    every-same _ _ (b .height + 1) (λ y. every-same _ _ (b .width + 1) (λ x. rw (inside-swap ax ay bx by x y))) in
+    rw (
+      cells,
+      edges-swap ay by ax bx (b .width) (λ (y x : ℕ). rowWall b x y),
+      edges-swap ax bx ay by (b .height) (λ (x y : ℕ). columnWall b x y),
+      vertices,
+    )

@@ -2,13 +2,30 @@
 use Prim.Native.Nat.{ℕ, _+_, _-_, _≤_, _<_, min, max}
 use mathlib.Core.Path.{_≡_, refl, sym, _∙_}
 use mathlib.Core.Logic.{⊎-elim}
+use mathlib.Core.Bool.{Bool, true}
 use native.Mathlib.Omega.{arith}
-use Rattle.laws.proofs.Tests.{order}
+use borrow.Author.Tests.{lt-ltb, le-leb, ltb-true, leb-true}
+use lib.Dec.{leb, ltb}
+use Rattle.laws.proofs.Tests.{order, and-both, and-left, and-right}
+use Rattle.legs.specs.Sight.{between}
 use Rattle.legs.specs.Leg.{far, vertexAt, cellAt}
 use Rattle.legs.specs.Nearer.{UnitEdge, Point, Strictly}
-use Rattle.legs.proofs.Axis.{cell-up, cell-down, vertex-up, vertex-down, axis-near, axis-next, axis-of}
+use Rattle.legs.proofs.Axis.{cell-up, cell-down, vertex-up, vertex-down, axis-near, axis-next, axis-spans, axis-of}
 use Rattle.legs.proofs.Points.{Gone, gone-out, gone-in, midway, midway-gone}
-use Rattle.legs.proofs.Seen.{between-out, between-in}
+
+pub between-out : (a b k : ℕ) → between a b k ≡ true → (min a b ≤ k) × (k < max a b)
+unfolding between
+between-out a b k h =
+    let s : Bool = leb (min a b) k in
+    let t : Bool = ltb k (max a b) in
+    (leb-true (min a b) k (and-left s t h), ltb-true k (max a b) (and-right s t h))
+
+-- the unit edge at a cell of the leg is between its ends
+between-in : (a b u : ℕ) → u < far a b → between a b (cellAt a b u) ≡ true
+unfolding between
+between-in a b u l =
+    let s = axis-spans a b u l in
+    and-both (le-leb (min a b) (cellAt a b u) (omega (arith, s .0))) (lt-ltb (cellAt a b u) (max a b) (s .1))
 
 module _ (a b u : ℕ) (hu : u < far a b) where
   pub edge-low : min (vertexAt a b u) (vertexAt a b (u + 1)) ≡ cellAt a b u
@@ -26,6 +43,13 @@ module _ (a b u : ℕ) (hu : u < far a b) where
         on = rw edge-low (between-in a b u hu);
         nearer-first = rw (axis-near a b u hu .2, axis-next a b u hu .2) (omega arith);
       }
+
+-- so there is one at every k between a and b
+pub edge-of : (a b k : ℕ) → between a b k ≡ true → (p : ℕ) × (q : ℕ) × UnitEdge a b p q × (min p q ≡ k)
+edge-of a b k h =
+    let (l, m) = between-out a b k h in
+    let (u, hu, e) = axis-of a b k (omega (arith, l)) m in
+    (vertexAt a b u, vertexAt a b (u + 1), edge-at a b u hu, edge-low a b u hu ∙ e)
 
 -- every unit edge between a and b is one of them
 pub record Placed (a b p q : ℕ) : Type 0 where

@@ -1,3 +1,4 @@
+pub mod Pinched
 pub mod Sight
 pub mod Neighbours
 pub mod Leg

@@ -4,9 +4,10 @@ use mathlib.Core.Path.{_≡_}
 use mathlib.Core.Logic.{_⊎_}
 use mathlib.Core.Bool.{true}
 use Rattle.board.specs.Board.{Board, blocked}
+use Rattle.legs.specs.Pinched.{pinched}
 use Rattle.legs.specs.declared.Stop.{Stop}
-use Rattle.legs.specs.declared.Stop.the-variants.{Clear, Cell, Edge}
-use Rattle.legs.specs.Sight.{crossed, rowWall, columnWall, between}
+use Rattle.legs.specs.declared.Stop.the-variants.{Clear, Cell, Edge, Vertex}
+use Rattle.legs.specs.Sight.{crossed, rowWall, columnWall, between, strictlyInside}
 use Rattle.legs.specs.Leg.{far}
 
 -- ---- what blocks a leg
@@ -17,11 +18,13 @@ pub record UnitEdge (a b p q : ℕ) : Type 0 where
   pub on : between a b (min p q) ≡ true
   pub nearer-first : far a p < far a q
 
--- a blocked cell that the leg crosses; a unit edge on a horizontal or a vertical leg with blocked cells on both sides
+-- a blocked cell that the leg crosses; a unit edge on a horizontal or a vertical leg with blocked cells on both sides; a pinched
+-- vertex strictly inside the leg
 pub data Blocks (b : Board) (ax ay bx by : ℕ) : Stop → Type 0 where
   cell : {i j : ℕ} → crossed ax ay bx by i j ≡ true → blocked b i j ≡ true → Blocks b ax ay bx by (Cell i j)
   level : {p q : ℕ} → ay ≡ by → UnitEdge ax bx p q → rowWall b (min p q) ay ≡ true → Blocks b ax ay bx by (Edge p ay q ay)
   upright : {p q : ℕ} → ax ≡ bx → UnitEdge ay by p q → columnWall b ax (min p q) ≡ true → Blocks b ax ay bx by (Edge ax p ax q)
+  vertex : {x y : ℕ} → strictlyInside ax ay bx by x y ≡ true → pinched b x y ≡ true → Blocks b ax ay bx by (Vertex x y)
 
 -- ---- the points of a leg
 
@@ -46,11 +49,12 @@ along a b p = a * p .behind + b * p .before
 abbrev pub Strictly : (a b c d : ℕ) → Point → Type 0
 Strictly a b c d p = (min c d * parts p < along a b p) × (along a b p < max c d * parts p)
 
--- the point lies strictly inside the cell, or strictly between the ends of a unit edge on the leg
+-- the point lies strictly inside the cell, or strictly between the ends of a unit edge on the leg, or is the vertex
 abbrev pub Meets : (ax ay bx by : ℕ) → Point → Stop → Type 0
 Meets ax ay bx by p Clear = ⊥
 Meets ax ay bx by p (Cell i j) = Strictly ax bx i (i + 1) p × Strictly ay by j (j + 1) p
 Meets ax ay bx by p (Edge x₁ y₁ x₂ y₂) = Strictly ax bx x₁ x₂ p ⊎ Strictly ay by y₁ y₂ p
+Meets ax ay bx by p (Vertex x y) = (along ax bx p ≡ x * parts p) × (along ay by p ≡ y * parts p)
 
 -- ---- the first
 

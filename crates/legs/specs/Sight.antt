@@ -1,10 +1,11 @@
--- Sight, as document 01 has it: over all cells and all unit edges of the board.
+-- Sight, as document 01 has it, amended by document 02, item 6: over all cells, all unit edges and all vertices of the board.
 use Prim.Native.Nat.{ℕ, zero, suc, _+_, _-_, min, max}
 use mathlib.Core.Bool.{Bool, true, false, not, _&&_, _||_}
 use lib.Dec.{leb, ltb, eqb}
 use lib.IntN.{ℤ, pos, negsuc, _-ℤ_, _*ℤ_}
 use Rattle.laws.specs.Below.{every}
 use Rattle.board.specs.Board.{Board, blocked}
+use Rattle.legs.specs.Pinched.{pinched}
 
 -- ---- cells
 
@@ -67,6 +68,25 @@ edgesOpen b ax ay bx by =
     (not (eqb ay by) || every (b .width) (λ (x : ℕ). not (between ax bx x && rowWall b x ay)))
     && (not (eqb ax bx) || every (b .height) (λ (y : ℕ). not (between ay by y && columnWall b ax y)))
 
+-- ---- vertices
+
+-- the coordinate p lies between a and b, or is one of them
+abbrev pub spanned : (a b p : ℕ) → Bool
+spanned a b p = leb (min a b) p && leb p (max a b)
+
+-- the point (x, y) lies strictly inside the leg: on no side of it, within both spans, and at neither end
+unfoldable pub strictlyInside : (ax ay bx by x y : ℕ) → Bool
+strictlyInside ax ay bx by x y =
+    ((not (positive ax ay bx by x y) && not (negative ax ay bx by x y)) && (spanned ax bx x && spanned ay by y))
+    && (not (eqb x ax && eqb y ay) && not (eqb x bx && eqb y by))
+
+-- no pinched vertex lies strictly inside the leg
+unfoldable pub verticesOpen : Board → (ax ay bx by : ℕ) → Bool
+verticesOpen b ax ay bx by =
+    every (b .height + 1) (λ (y : ℕ). every (b .width + 1) (λ (x : ℕ). not (strictlyInside ax ay bx by x y && pinched b x y)))
+
+-- ---- the leg
+
 -- the leg from (ax, ay) to (bx, by) has sight
 unfoldable pub sees : Board → (ax ay bx by : ℕ) → Bool
-sees b ax ay bx by = cellsFree b ax ay bx by && edgesOpen b ax ay bx by
+sees b ax ay bx by = (cellsFree b ax ay bx by && edgesOpen b ax ay bx by) && verticesOpen b ax ay bx by

@@ -1,4 +1,5 @@
 pub mod Sizes
 pub mod Fair
+pub mod Admitted
 pub mod Rounding
 pub mod Theorems

@@ -1,25 +1,29 @@
 -- What the search promises on document 01's board, and what the crate above may rely on. Assumes nothing.
 use mathlib.Core.Path.{_≡_}
 use mathlib.Core.Bool.{true}
-use Prim.Native.Nat.{ℕ, _^_, _<_}
+use Prim.Native.Nat.{ℕ, _+_, _^_, _<_}
 use native.Mathlib.Omega.{arith}
 use lib.ListN.{length}
-use Rattle.board.specs.Board.{Board, vertices, number}
+use Rattle.laws.proofs.Tests.{false-of}
+use Rattle.board.specs.Board.{Board, vertices, number, column, row}
 use Rattle.board.specs.Inner.{Sound, OnBoard}
 use Rattle.reach.specs.Complete.{Complete, PairsTested}
 use Rattle.reach.specs.Turns.{at}
+use Rattle.legs.specs.Pinched.{pinched}
 use Rattle.legs.specs.Neighbours.{visible}
+use Rattle.legs.proofs.Seen.{inside-unpinched}
 use Rattle.theta.specs.Search.{State, search, trail, path}
 use Rattle.theta.specs.Demands.{IsRoute, Work}
 use Rattle.theta.specs.Lent.{Searched}
 use Rattle.theta.specs.Back.{Traced}
 use Rattle.theta.proofs.Completeness.{search-complete, search-tested}
 use Rattle.theta.proofs.Tidy.{search-work}
-use Rattle.theta.proofs.Routes.{search-route}
+use Rattle.theta.proofs.Routes.{search-route, search-between}
 use Rattle.theta.proofs.Found.{lent-traced, lent-path, lent-units, lent-bound}
-use Rattle.problem.specs.Problem.{problem, RoundedDown}
+use Rattle.problem.specs.Problem.{problem, Unpinched, RoundedDown}
 use Rattle.problem.proofs.Sizes.{largest-exact}
 use Rattle.problem.proofs.Fair.{board-fair, board-legs}
+use Rattle.problem.proofs.Admitted.{reached-unpinched}
 use Rattle.problem.proofs.Rounding.{path-rounded}
 
 -- ---- the demands
@@ -54,6 +58,20 @@ module _ (b : Board) (sx sy gx gy : ℕ) (S : OnBoard b sx sy) where
     unfolding problem
     board-measured =
         rw (board-route .total) (path-rounded b sx sy gx gy (path (problem b sx sy gx gy) ((search (problem b sx sy gx gy)) .state)))
+
+    -- and it squeezes through no pinched vertex
+    pub board-unpinched : Unpinched b (path (problem b sx sy gx gy) ((search (problem b sx sy gx gy)) .state))
+    unfolding problem
+    board-unpinched =
+        let p = problem b sx sy gx gy in
+        let l = path p ((search p) .state) in
+        record {
+          between = λ i h j.
+              let B = search-between (board-fair b sx sy gx gy S) (board-legs b sx sy gx gy) f i h j in
+              reached-unpinched b (number b sx sy) (number b gx gy) (at l i) (B .reached) (B .not-start) (B .not-goal);
+          legs = λ i j x y w. false-of (pinched b x y) (inside-unpinched b (column b (at l i)) (row b (at l i)) (column b (at l (i + 1)))
+              (row b (at l (i + 1))) (board-route .sight i j) x y w);
+        }
 
 -- ---- after a call of `find` that found a path
 

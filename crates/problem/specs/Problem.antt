@@ -1,6 +1,7 @@
--- Document 01's board as a problem for the search, its vertices by their numbers; and a path's units against its true length.
+-- Document 01's board as a problem for the search, its vertices by their numbers; where a path may have pinched vertices; and a
+-- path's units against its true length.
 use mathlib.Core.Path.{_≡_}
-use mathlib.Core.Bool.{Bool}
+use mathlib.Core.Bool.{Bool, true, false}
 use mathlib.Core.List.{List, [], _∷_}
 use Prim.Native.Nat.{ℕ, _+_, _-_, _*_, _^_, _≤_, _<_}
 use lib.ListN.{length}
@@ -9,7 +10,8 @@ use Rattle.length.specs.Legs.{step}
 use Rattle.length.specs.Root.{root, Bounds}
 use Rattle.length.specs.Units.{square, units}
 use Rattle.reach.specs.Turns.{at}
-use Rattle.legs.specs.Sight.{sees}
+use Rattle.legs.specs.Sight.{strictlyInside, sees}
+use Rattle.legs.specs.Pinched.{pinched}
 use Rattle.legs.specs.Neighbours.{visible}
 use Rattle.theta.specs.Search.{Problem}
 
@@ -30,6 +32,18 @@ problem b sx sy gx gy = record {
   start = number b sx sy;
   goal = number b gx gy;
 }
+
+-- ---- pinched vertices (document 02, item 6)
+
+-- the point (x, y) lies strictly inside the leg between the vertices numbered u and v
+abbrev pub insideFrom : Board → (u v : ℕ) → (x y : ℕ) → Bool
+insideFrom b u v x y = strictlyInside (column b u) (row b u) (column b v) (row b v) x y
+
+-- of a path's vertices only the first and the last may be pinched, and no leg has a pinched vertex strictly inside it
+pub record Unpinched (b : Board) (path : List ℕ) : Type 0 where
+  pub between : (i : ℕ) → 0 < i → i + 1 < length path → pinched b (column b (at path i)) (row b (at path i)) ≡ false
+  pub legs : (i : ℕ) → i + 1 < length path → (x y : ℕ) → insideFrom b (at path i) (at path (i + 1)) x y ≡ true
+      → pinched b x y ≡ false
 
 -- ---- a path's units against its true length, in whole numbers
 

@@ -1,7 +1,7 @@
 -- The discipline of marks: a taken vertex becomes 2, its unseen near neighbours 1. Each such change is a `Step` in the sense of Taken.antt,
 -- whatever else a search keeps. Assumes nothing.
 use mathlib.Core.Path.{_≡_, refl, ap, _∙_}
-use mathlib.Core.Logic.{_≢_}
+use mathlib.Core.Logic.{_⊎_, inl, inr, _≢_}
 use mathlib.Core.Bool.{Bool, true, false, not, _&&_, _||_, cond}
 use mathlib.Core.List.{List}
 use Prim.Native.Nat.{ℕ, zero, suc, _≤_, _<_}
@@ -11,6 +11,7 @@ use lib.Dec.{eqb, eqb·suc-zero}
 use lib.ListN.{length, set, length-set}
 use lib.Seq.{getD-set-same, getD-set-other}
 use borrow.Author.Tests.{eq-eqb, ne-eqb}
+use Rattle.laws.proofs.Tests.{bool-cases}
 use Rattle.reach.specs.Turns.{at, seenIn, doneIn}
 use Rattle.reach.proofs.Taken.{Step}
 
@@ -101,6 +102,15 @@ module _ (near : ℕ → ℕ → Bool) (u : ℕ) (m : List ℕ) where
       go : Dec (v < k) → at (turned near u k m) v ≤ 2
       go (yes l) = rw (turned-now k v l h) (after-le (near u v && eqb (at m v) 0) (at m v) a)
       go (no l) = rw (turned-later k v (omega arith)) a
+
+  -- what is seen was seen, or is near
+  pub turned-seen : (k v : ℕ) → k ≤ length m → at (turned near u k m) v ≢ 0 → (at m v ≢ 0) ⊎ (near u v ≡ true)
+  turned-seen k v h s = go (decLt v k) (bool-cases (near u v))
+    where
+      go : Dec (v < k) → (near u v ≡ true) ⊎ (near u v ≡ false) → (at m v ≢ 0) ⊎ (near u v ≡ true)
+      go d (inl n) = inr n
+      go (yes l) (inr n) = inl (λ e. s (rw (turned-now k v l h, n) e))
+      go (no l) (inr n) = inl (λ e. s (turned-later k v (omega arith) ∙ e))
 
 -- ---- the taken vertex and its neighbours
 

@@ -1,7 +1,7 @@
 -- Vertices by place and by number: what the problem of a board says of them, and which vertices are beside one. Assumes nothing.
 use mathlib.Core.Path.{_≡_, refl, sym, ap, _∙_}
 use mathlib.Core.Logic.{_⊎_, inl, inr, _≢_}
-use mathlib.Core.Bool.{Bool, true, false, not, _&&_, cond}
+use mathlib.Core.Bool.{Bool, true, false, not, _&&_, _||_, cond, and-true}
 use mathlib.Core.List.{List}
 use Prim.Native.Nat.{ℕ, _+_, _-_, _*_, _≤_, _<_}
 use native.Mathlib.Nat.{suc-mul, mul-le-mul-right}
@@ -16,15 +16,18 @@ use Rattle.length.specs.Legs.{step}
 use Rattle.length.specs.Units.{units}
 use Rattle.legs.specs.Leg.{far}
 use Rattle.legs.specs.Sight.{sees}
+use Rattle.legs.specs.Pinched.{pinched, admitted}
 use Rattle.legs.specs.Neighbours.{neighbours, visible}
 use Rattle.legs.proofs.Neighbours.{neighbours-near}
 use Rattle.legs.proofs.Visible.{visible-neighbours}
 use Rattle.reach.specs.Turns.{at}
 use Rattle.round.specs.declared.Request.{Request}
 use Rattle.round.specs.declared.Spot.{Spot}
+use Rattle.theta.specs.Search.{State}
 use Rattle.problem.specs.Problem.{problem}
-use Rattle.round.specs.Request.{boardOf, asked, sizeOf, Asked, Placed}
-use Rattle.round.specs.Round.{Beside}
+use Rattle.problem.proofs.Admitted.{reached-admitted}
+use Rattle.round.specs.Request.{boardOf, asked, admits, sizeOf, Asked, Placed}
+use Rattle.round.specs.Round.{Taken, Beside}
 
 -- a row ends within the rows
 pub rows-le : (wide rows y : ℕ) → y < rows → y * wide + wide ≤ rows * wide
@@ -69,6 +72,18 @@ module _ (cells : List ℕ) (q : Request) where
         number-cond true = refl
         number-cond false = refl
 
+  -- a spot that is not pinched is admitted; one that is pinched, if it is the start or the goal
+  module _ {s : Spot} (P : Placed (boardOf cells q) s) {r : Bool} (e : r ≡ pinched (boardOf cells q) (s .x) (s .y)) where
+    pub open-admitted : r ≡ false → true ≡ admits cells q (s .number)
+    unfolding admitted
+    open-admitted z = rw (placed-column P, placed-row P, ← e, z) refl
+
+    pub pinched-admitted : r ≡ true → {v w : ℕ} → v ≡ numberOf (q .width) (q .sx) (q .sy)
+        → w ≡ numberOf (q .width) (q .gx) (q .gy)
+        → (eqb (s .number) v || eqb (s .number) w) ≡ admits cells q (s .number)
+    unfolding admitted
+    pinched-admitted z a b = rw (placed-column P, placed-row P, ← e, z, a, b) refl
+
 -- either of two placed spots is placed
 pub placed-cond : {b : Board} (x : Bool) {s t : Spot} → Placed b s → Placed b t → Placed b (cond x s t)
 placed-cond true P Q = P
@@ -98,10 +113,12 @@ module _ {cells : List ℕ} {q : Request} {u w : Spot} (P : Placed (boardOf cell
       differ (no e) f = rw (ne-eqb (u .x) (w .x) e) refl
       differ (yes e) (no f) = rw (ne-eqb (u .y) (w .y) f, and-false (eqb (u .x) (w .x)) refl) refl
 
-  -- it is near if it has sight
-  beside-near : (asked cells q) .near (u .number) (w .number) ≡ sees (boardOf cells q) (u .x) (u .y) (w .x) (w .y)
+  -- it is near if it is admitted and has sight, where u is admitted
+  beside-near : admits cells q (u .number) ≡ true
+      → (asked cells q) .near (u .number) (w .number)
+      ≡ (admits cells q (w .number) && sees (boardOf cells q) (u .x) (u .y) (w .x) (w .y))
   unfolding problem visible
-  beside-near =
+  beside-near a =
       rw (
         placed-column P,
         placed-row P,
@@ -110,11 +127,17 @@ module _ {cells : List ℕ} {q : Request} {u w : Spot} (P : Placed (boardOf cell
         lt-ltb (u .number) (sizeOf q) (placed-below P),
         lt-ltb (w .number) (sizeOf q) (placed-below (B .placed)),
         beside-neighbours,
+        a,
       ) refl
 
-  -- so what is said of sight is said of being near
-  pub near-said : {r b : Bool} → r ≡ sees (boardOf cells q) (u .x) (u .y) (w .x) (w .y) → r ≡ b → (asked cells q) .near (u .number) (w .number) ≡ b
-  near-said e z = beside-near ∙ sym e ∙ z
+  module _ (a : admits cells q (u .number) ≡ true) {r : Bool} (e : r ≡ sees (boardOf cells q) (u .x) (u .y) (w .x) (w .y)) where
+    -- without sight it is not near
+    pub unseen-far : r ≡ false → false ≡ (asked cells q) .near (u .number) (w .number)
+    unseen-far z = sym (beside-near a ∙ and-false (admits cells q (w .number)) (sym e ∙ z))
+
+    -- with sight it is near if it is admitted
+    pub sight-near : r ≡ true → {s : Bool} → s ≡ admits cells q (w .number) → s ≡ (asked cells q) .near (u .number) (w .number)
+    sight-near z f = f ∙ sym (beside-near a ∙ rw (← e, z) (and-true (admits cells q (w .number))))
 
 -- ---- not beside it
 
@@ -152,3 +175,13 @@ module _ (cells : List ℕ) (q : Request) {u : Spot} (P : Placed (boardOf cells 
       go : (v + 1 < y * (q .width + 1) + u .x) ⊎ (y * (q .width + 1) + u .x + 1 < v) → far (u .x) (columnOf (q .width) v) ≤ 1 → ⊥
       go (inl a) f = omega (arith, column-is)
       go (inr a) f = omega (arith, column-is)
+
+-- ---- the vertices that have been seen are admitted, and the taken one among them
+
+module _ {cells : List ℕ} {q : Request} {u from : Spot} {s : State} (T : Taken cells q u from s) where
+  pub seen-admitted : (v : ℕ) → v < sizeOf q → at (s .mark) v ≢ 0 → admits cells q v ≡ true
+  unfolding problem
+  seen-admitted v l h = reached-admitted (boardOf cells q) _ _ (T .ready .reached v l h)
+
+  pub taken-admitted : admits cells q (u .number) ≡ true
+  taken-admitted = seen-admitted (u .number) (placed-below (T .placed)) (λ e. omega (arith, T .ready .done))

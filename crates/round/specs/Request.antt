@@ -1,9 +1,11 @@
 -- A request and the spots on its board, as the code hands them on.
 use mathlib.Core.Path.{_≡_}
+use mathlib.Core.Bool.{Bool}
 use mathlib.Core.List.{List}
 use Prim.Native.Nat.{ℕ, _+_, _*_}
-use Rattle.board.specs.Board.{Board, board, number}
+use Rattle.board.specs.Board.{Board, board, numberOf, number}
 use Rattle.board.specs.Inner.{Sound, OnBoard}
+use Rattle.legs.specs.Pinched.{admitted}
 use Rattle.theta.specs.Search.{Problem}
 use Rattle.round.specs.declared.Request.{Request}
 use Rattle.round.specs.declared.Spot.{Spot}
@@ -15,6 +17,10 @@ boardOf cells q = board cells (q .width) (q .height)
 
 abbrev pub asked : List ℕ → Request → Problem
 asked cells q = problem (boardOf cells q) (q .sx) (q .sy) (q .gx) (q .gy)
+
+-- the vertex numbered v is admitted to its search
+abbrev pub admits : List ℕ → Request → ℕ → Bool
+admits cells q = admitted (boardOf cells q) (numberOf (q .width) (q .sx) (q .sy)) (numberOf (q .width) (q .gx) (q .gy))
 
 -- how many vertices its board has
 abbrev pub sizeOf : Request → ℕ

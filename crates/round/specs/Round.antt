@@ -1,5 +1,7 @@
 -- The round of a taken vertex's neighbours, on a board: what the contracts of the code say.
 use mathlib.Core.Path.{_≡_}
+use mathlib.Core.Logic.{_≢_}
+use mathlib.Core.Bool.{true}
 use mathlib.Core.List.{List}
 use Prim.Native.Nat.{ℕ, _+_, _≤_, _<_}
 use lib.ListN.{length, set}
@@ -10,7 +12,7 @@ use Rattle.round.specs.declared.Spot.{Spot}
 use Rattle.theta.specs.Search.{State}
 use Rattle.theta.specs.Lent.{Ready}
 use Rattle.problem.specs.Sizes.{largest}
-use Rattle.round.specs.Request.{boardOf, asked, sizeOf, Asked, Placed}
+use Rattle.round.specs.Request.{boardOf, asked, admits, sizeOf, Asked, Placed}
 
 -- the taken vertex u and its parent
 pub record Taken (cells : List ℕ) (q : Request) (u from : Spot) (s : State) : Type 0 where
@@ -27,6 +29,15 @@ pub record Beside (cells : List ℕ) (q : Request) (u w : Spot) : Type 0 where
   pub right : w .x ≤ u .x + 1
   pub above : u .y ≤ w .y + 1
   pub below : w .y ≤ u .y + 1
+
+-- it is not u, which is admitted; and so is w, if its mark says that it has been seen
+pub record Judging (cells : List ℕ) (q : Request) (u w : Spot) (mark : ℕ) : Type 0 where
+  pub asked-for : Asked cells q
+  pub placed : Placed (boardOf cells q) u
+  pub beside : Beside cells q u w
+  pub apart : w .number ≢ u .number
+  pub admitted : admits cells q (u .number) ≡ true
+  pub seen-admitted : mark ≢ 0 → admits cells q (w .number) ≡ true
 
 -- the open list of the board is right
 abbrev pub ListedFor : Request → (g mark leads keys : List ℕ) → Type 0

@@ -4,16 +4,18 @@ ghost use mathlib.Core.Bool.{cond};
 ghost use Prim.Native.Nat.{_+_, _^_, _≤_, _<_, min};
 ghost use Rattle.board.specs.Limits.{mostVertices};
 ghost use Rattle.legs.specs.Sight.{sees};
-ghost use Rattle.round.specs.Request.{boardOf, asked, sizeOf, diagonal, Asked, Placed};
+ghost use Rattle.round.specs.Request.{boardOf, asked, admits, sizeOf, diagonal, Asked, Placed};
 ghost use Rattle.table.specs.Lengths.{Known};
-ghost use Rattle.round.specs.Round.{Taken, Beside, ListedFor, Settling, Settled};
+ghost use Rattle.round.specs.Round.{Taken, Beside, Judging, ListedFor, Settling, Settled};
 ghost use Rattle.theta.specs.Lent.{state, Looked, Rounded};
 use crate::Request;
 use crate::Spot;
 use board::Vertex;
 use board::inner::line_before;
+use board::inner::number_of;
 use open::list::open_vertex;
 use table::inner::units_between;
+use walks::inner::is_pinched;
 use walks::inner::sees;
 use walks::inner::sees_neighbour;
 
@@ -75,6 +77,34 @@ fn settle(
     parents[v] = parent as Vertex;
 }
 
+// Whether w may be passed in this search: it is not pinched, or it is the start or the goal.
+fn is_admitted(cells: &[u8], request: Request, w: Spot) -> bool
+    requires { ⌜ Asked (now cells) request ⌝ }
+    requires { ⌜ Placed (boardOf (now cells) request) w ⌝ }
+    ensures { λ r. ⌜ r ≡ admits (now (cells .entry)) request (w .number) ⌝ }
+{
+    if !is_pinched(cells, request.width, request.height, w.x, w.y) {
+        return true;
+    }
+    let start = number_of(request.width, request.sx, request.sy) as usize;
+    let goal = number_of(request.width, request.gx, request.gy) as usize;
+    (w.number == start) | (w.number == goal)
+}
+
+// Whether w, beside u, is a visible neighbour of u. What has been seen was admitted then: it is not asked again.
+fn is_visible(cells: &[u8], request: Request, u: Spot, w: Spot, mark: u8) -> bool
+    requires { ⌜ Judging (now cells) request u w mark ⌝ }
+    ensures { λ r. ⌜ r ≡ (asked (now (cells .entry)) request) .near (u .number) (w .number) ⌝ }
+{
+    if !sees_neighbour(cells, request.width, request.height, u.x, u.y, w.x, w.y) {
+        return false;
+    }
+    if mark != 0 {
+        return true;
+    }
+    is_admitted(cells, request, w)
+}
+
 // The vertex w beside u is looked at, if it is a visible neighbour that is not yet expanded. The sight tests so far go in and
 // come out.
 fn look(
@@ -104,7 +134,7 @@ fn look(
     if mark == 2 {
         return tests;
     }
-    if !sees_neighbour(cells, request.width, request.height, u.x, u.y, w.x, w.y) {
+    if !is_visible(cells, request, u, w, mark) {
         return tests;
     }
     let from = candidate(cells, request, u, parent, w);

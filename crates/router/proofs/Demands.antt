@@ -1,4 +1,4 @@
--- Demands 2 and 3, proved of every call. Assumes nothing.
+-- Demands 2 and 3, and that no path squeezes through a pinched vertex, proved of every call. Assumes nothing.
 use mathlib.Core.Path.{_≡_, refl, sym, ap, _∙_, subst}
 use mathlib.Core.Bool.{Bool, true, false, not, _||_, cond, true≢false, false≢true}
 use mathlib.Core.List.{List, [], _++_}
@@ -17,8 +17,16 @@ use Rattle.length.proofs.Floats.{cells-exact}
 use Rattle.reach.specs.Turns.{at}
 use Rattle.theta.specs.Search.{Problem, search, path}
 use Rattle.theta.specs.Lent.{state, Searched}
-use Rattle.problem.specs.Problem.{problem}
-use Rattle.problem.proofs.Theorems.{board-complete, board-tested, board-route, board-measured, found-units, found-exact}
+use Rattle.problem.specs.Problem.{problem, Unpinched}
+use Rattle.problem.proofs.Theorems.{
+  board-complete,
+  board-tested,
+  board-route,
+  board-measured,
+  board-unpinched,
+  found-units,
+  found-exact,
+}
 use Rattle.router.specs.Answers.{Route, noRoute, found, none, Slices, workRow, searchRow, routeRow, searched, Routed}
 use Rattle.router.specs.Demands.{Exhaustive, Rightly}
 
@@ -159,6 +167,16 @@ module _ (b : Board) (sx sy gx gy : ℕ) (lent : Slices) where
         cells = cells-exact (at (search p .state .g) (number b gx gy)) (zero-units e);
       })
 
+  -- the path in the path slice squeezes through no pinched vertex
+  row-unpinched : (path₀ path′ : List ℕ) → h .number ≡ 0 → path′ ≡ path p (search p .state) ++ drop (count p) path₀
+      → Unpinched b (take (h .values .vertices) path′)
+  unfolding problem
+  row-unpinched path₀ path′ e w =
+      let z = row-path e in
+      let front : take (count p) path′ ≡ path p (search p .state) =
+      rw w (take-append-seam (path p (search p .state)) (drop (count p) path₀)) in
+      rw (z .3) (rw front (board-unpinched b sx sy gx gy (z .0) (z .1)))
+
 -- ---- of every call
 
 module _ {b : Board} {sx sy gx gy : ℕ} {before after : Slices} {h : Handed Route} (R : Routed b sx sy gx gy before after h) where
@@ -172,3 +190,10 @@ module _ {b : Board} {sx sy gx gy : ℕ} {before after : Slices} {h : Handed Rou
       let z : routeRow b sx sy gx gy before .number ≡ 0 = ap (λ (x : Handed Route). x .number) (sym (R .row-is)) ∙ e in
       let w = ap (λ (s : Slices). s .path) (R .after-is) in
       rw (R .row-is) (row-rightly b sx sy gx gy before (before .path) (after .path) z (w ∙ rw e))
+
+  -- document 02, item 6
+  pub route-unpinched : h .number ≡ 0 → Unpinched b (take (h .values .vertices) (after .path))
+  route-unpinched e =
+      let z : routeRow b sx sy gx gy before .number ≡ 0 = ap (λ (x : Handed Route). x .number) (sym (R .row-is)) ∙ e in
+      let w = ap (λ (s : Slices). s .path) (R .after-is) in
+      rw (R .row-is) (row-unpinched b sx sy gx gy before (before .path) (after .path) z (w ∙ rw e))

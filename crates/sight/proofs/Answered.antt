@@ -13,7 +13,7 @@ use Rattle.board.specs.Handed.{Handed, Verdict, passes, refused, answer, boardR
 use Rattle.board.proofs.Verdicts.{Within, both-pass, passes-on}
 use Rattle.board.proofs.Rows.{leg-first, leg-second, ends-pass, leg-within}
 use Rattle.sight.specs.declared.Answer.{Answer}
-use Rattle.sight.specs.declared.Answer.the-variants.{Clear, Cell, Edge, Refused}
+use Rattle.sight.specs.declared.Answer.the-variants.{Clear, Cell, Edge, Vertex, Refused}
 use Rattle.legs.specs.declared.Stop.{Stop}
 use Rattle.legs.specs.declared.Stop.the-variants as stop
 use Rattle.legs.specs.Sight.{sees}
@@ -21,9 +21,9 @@ use Rattle.legs.specs.Stops.{isClear, firstStop}
 use Rattle.legs.specs.Inner.{EndsOn}
 use Rattle.sight.specs.Answers.{Seen, unseen, valuesOf, handedSight, sightRow}
 use Rattle.sight.specs.Says.{Passes, Says}
-use Rattle.legs.proofs.Seen.{sees-clear}
+use Rattle.legs.proofs.Seen.{sees-unblocked, unblocked-sees}
 use Rattle.legs.proofs.Symmetric.{sees-symmetric}
-use Rattle.legs.proofs.Nearest.{stop-first, first-stops, clear-unblocked, unblocked-clear, sees-unblocked, unblocked-sees}
+use Rattle.legs.proofs.Nearest.{stop-first, first-stops, clear-unblocked, unblocked-clear, sees-clear}
 use Rattle.sight.proofs.Answering.{refused-as, stopped-as}
 use Rattle.sight.proofs.Determined.{sight-determined}
 
@@ -33,17 +33,20 @@ answerOf : Stop → Answer
 answerOf stop.Clear = Clear
 answerOf (stop.Cell x y) = Cell x y
 answerOf (stop.Edge x y x2 y2) = Edge x y x2 y2
+answerOf (stop.Vertex x y) = Vertex x y
 
 handed-of : (s : Stop) → handedSight (answerOf s) ≡ answer (valuesOf s)
 unfolding answerOf
 handed-of stop.Clear = refl
 handed-of (stop.Cell x y) = refl
 handed-of (stop.Edge x y x2 y2) = refl
+handed-of (stop.Vertex x y) = refl
 
 sight-of : (s : Stop) → valuesOf s .sight ≡ asNumber (isClear s)
 sight-of stop.Clear = refl
 sight-of (stop.Cell x y) = refl
 sight-of (stop.Edge x y x2 y2) = refl
+sight-of (stop.Vertex x y) = refl
 
 -- what a refusal hands back is its row
 abbrev rowIn : Handed Seen → Verdict
@@ -64,6 +67,7 @@ module _ (b : Board) (ax ay bx by : ℕ) where
   stop-says h stop.Clear e = (h, clear-unblocked b ax ay bx by e)
   stop-says h (stop.Cell x y) e = (h, stop-first b ax ay bx by (stop.Cell x y) e refl)
   stop-says h (stop.Edge x y x2 y2) e = (h, stop-first b ax ay bx by (stop.Edge x y x2 y2) e refl)
+  stop-says h (stop.Vertex x y) e = (h, stop-first b ax ay bx by (stop.Vertex x y) e refl)
 
   passed-says : Passes b ax ay bx by → (r : Answer) → handedSight r ≡ sightRow b ax ay bx by → Says b ax ay bx by r
   passed-says h r e =
@@ -83,6 +87,7 @@ module _ (b : Board) (ax ay bx by : ℕ) where
     refused-says Clear e = absurd (numbered (ap (λ (h : Handed Seen). h .number) e))
     refused-says (Cell x y) e = absurd (numbered (ap (λ (h : Handed Seen). h .number) e))
     refused-says (Edge x y x2 y2) e = absurd (numbered (ap (λ (h : Handed Seen). h .number) e))
+    refused-says (Vertex x y) e = absurd (numbered (ap (λ (h : Handed Seen). h .number) e))
     refused-says (Refused why) e = h ∙ sym (ap rowIn e) ∙ row-of why
 
   by-rows : (v : Verdict) → legRows b ax ay bx by ≡ v → (r : Answer) → handedSight r ≡ sightRow b ax ay bx by → Says b ax ay bx by r
@@ -99,6 +104,7 @@ module _ (b : Board) (ax ay bx by : ℕ) where
   says-whole Clear (h, none) = stopped-as b ax ay bx by h (sym (unblocked-clear b ax ay bx by none))
   says-whole (Cell x y) (h, f) = stopped-as b ax ay bx by h (sym (first-stops b ax ay bx by (stop.Cell x y) f))
   says-whole (Edge x y x2 y2) (h, f) = stopped-as b ax ay bx by h (sym (first-stops b ax ay bx by (stop.Edge x y x2 y2) f))
+  says-whole (Vertex x y) (h, f) = stopped-as b ax ay bx by h (sym (first-stops b ax ay bx by (stop.Vertex x y) f))
   says-whole (Refused why) e = refused-as b ax ay bx by why (sym e)
 
   -- ---- clear is sight
@@ -129,6 +135,6 @@ clear-both-ways b ax ay bx by r s e f g =
     let (h, none) : Says b ax ay bx by Clear = subst (Says b ax ay bx by) g (says-true b ax ay bx by r e) in
     let back = turned b ax ay bx by h in
     let seen : sees b bx by ax ay ≡ true =
-    sym (sees-symmetric b ax ay bx by) ∙ unblocked-sees b ax ay bx by (on-board b ax ay bx by h) none in
+    sym (sees-symmetric b ax ay bx by) ∙ unblocked-sees b ax ay bx by none in
     sight-determined b bx by ax ay s Clear f
     (says-whole b bx by ax ay Clear (back, sees-unblocked b bx by ax ay (on-board b bx by ax ay back) seen))

@@ -9,12 +9,14 @@ use Rattle.board.specs.Handed.{Handed}
 use Rattle.board.specs.declared.Refusal.the-variants.{Side, Count, Byte, First, Second}
 use Rattle.board.proofs.Determined.{refusalOf}
 use Rattle.sight.specs.declared.Answer.{Answer}
-use Rattle.sight.specs.declared.Answer.the-variants.{Clear, Cell, Edge, Refused}
+use Rattle.sight.specs.declared.Answer.the-variants.{Clear, Cell, Edge, Vertex, Refused}
 use Rattle.sight.specs.Answers.{Seen, handedSight, sightRow}
 
 -- the answer that hands these values back
 stopped : Seen → Answer
-stopped v = cond (eqb (v .kind) 0) Clear (cond (eqb (v .kind) 1) (Cell (v .x) (v .y)) (Edge (v .x) (v .y) (v .x2) (v .y2)))
+stopped v =
+    cond (eqb (v .kind) 0) Clear
+    (cond (eqb (v .kind) 1) (Cell (v .x) (v .y)) (cond (eqb (v .kind) 2) (Edge (v .x) (v .y) (v .x2) (v .y2)) (Vertex (v .x) (v .y))))
 
 from : Handed Seen → Answer
 from h = cond (eqb (h .number) 0) (stopped (h .values)) (Refused (refusalOf (h .number) (h .place)))
@@ -24,6 +26,7 @@ unfolding from stopped
 back Clear = refl
 back (Cell x y) = refl
 back (Edge x y x2 y2) = refl
+back (Vertex x y) = refl
 back (Refused Side) = refl
 back (Refused Count) = refl
 back (Refused (Byte at)) = refl

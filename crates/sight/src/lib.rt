@@ -15,6 +15,7 @@ pub enum Answer {
     Clear,
     Cell(usize, usize),
     Edge(usize, usize, usize, usize),
+    Vertex(usize, usize),
     Refused(Refusal),
 }
 
@@ -26,6 +27,7 @@ fn named(stop: Stop) -> Answer
         Stop::Clear => Answer::Clear,
         Stop::Cell(x, y) => Answer::Cell(x, y),
         Stop::Edge(x, y, x2, y2) => Answer::Edge(x, y, x2, y2),
+        Stop::Vertex(x, y) => Answer::Vertex(x, y),
     }
 }
 

@@ -1,6 +1,6 @@
 -- The inner loop: the neighbours of a taken vertex are looked at one after another, and then the outer loop goes on. Assumes nothing.
 use mathlib.Core.Path.{_≡_, refl, sym, ap, _∙_}
-use mathlib.Core.Logic.{_≢_}
+use mathlib.Core.Logic.{_⊎_, inl, inr, _≢_}
 use mathlib.Core.Bool.{Bool, true, false, _||_, cond}
 use mathlib.Core.List.{List}
 use Prim.Native.Nat.{ℕ, zero, suc, _+_, _*_, _≤_, _<_}
@@ -10,10 +10,11 @@ use lib.Dec.{eqb, ltb}
 use lib.ListN.{length-set}
 use borrow.Author.Tests.{eqb-true, eq-eqb, ne-eqb, ltb-true}
 use Rattle.laws.proofs.Tests.{and-false}
+use Rattle.reach.specs.Reach.{Reach, move}
 use Rattle.reach.specs.Turns.{at, doneIn, vertex, Result}
 use Rattle.laws.proofs.Below.{many-le}
 use Rattle.reach.proofs.Taken.{unmet}
-use Rattle.reach.proofs.Marks.{turned, turned-done, turned-le, marks-set}
+use Rattle.reach.proofs.Marks.{turned, turned-done, turned-le, turned-seen, marks-set, set-seen}
 use Rattle.theta.specs.Search.{Problem, State, choose, via, cost, wins, store, due, relax, around, close, expand}
 use Rattle.theta.specs.Fair.{Fair, FairLegs}
 use Rattle.theta.specs.Lent.{counting, marked, Ready, Looked, Rounded}
@@ -100,6 +101,15 @@ module _ {p : Problem} {u k : ℕ} {s r : State} (R : Rounded p u k s r) where
     pub rounded-parent : at (r .parent) u ≡ at (s .parent) u
     rounded-parent = ap (λ (x : Entry). x .parent) (fixed u (D .done))
 
+    -- what is seen stays reached
+    still-reached : (v : ℕ) → v < p .size → at (r .mark) v ≢ 0 → Reach (p .near) (p .start) v
+    still-reached v h q =
+        go (turned-seen (p .near) u (s .mark) k v (omega (arith, D .room-m)) (λ e. q (ap (λ (x : List ℕ). at x v) mark-is ∙ e)))
+      where
+        go : (at (s .mark) v ≢ 0) ⊎ (p .near u v ≡ true) → Reach (p .near) (p .start) v
+        go (inl a) = D .reached v h a
+        go (inr n) = move (D .reached u (D .on) (λ e. omega (arith, D .done))) n
+
     -- the taken vertex stays ready
     pub rounded-ready : Ready p most u r
     rounded-ready =
@@ -112,6 +122,7 @@ module _ {p : Problem} {u k : ℕ} {s r : State} (R : Rounded p u k s r) where
           room-p = omega (arith, D .room-p, size .parent-same);
           room-m = omega (arith, D .room-m, size .mark-same);
           marks = λ v h. rw mark-is (turned-le (p .near) u (s .mark) k v (omega (arith, D .room-m)) (D .marks v h));
+          reached = still-reached;
           on = D .on;
           on-parent = rw q (D .on-parent);
           done = done-stays u (D .done);
@@ -154,6 +165,10 @@ module _ {p : Problem} (F : Fair p) {longest : ℕ} (L : FairLegs p longest) {wh
         room-p = H .tidy .room-p;
         room-m = rw length-set (H .tidy .room-m);
         marks = marks-set (p .size) u (s .mark) (omega (arith, H .tidy .room-m, o .0)) (W .sane .marks);
+        reached = λ v h q.
+            W .sane .inv .sound v h
+            (sym (set-seen (p .size) (p .near) u (s .mark) (o .0) (W .sane .room) (o .1) v)
+            ∙ rw (ne-eqb (at (marked u s .mark) v) 0 q) refl);
         on = a .on;
         on-parent = b .on;
         done = eqb-true (at (marked u s .mark) u) 2 (a .done);

@@ -2,13 +2,14 @@
 -- Assumes nothing.
 use mathlib.Core.Path.{_≡_, refl, sym, ap, _∙_}
 use mathlib.Core.Logic.{_≢_}
-use mathlib.Core.Bool.{true}
+use mathlib.Core.Bool.{true, true≢false}
 use mathlib.Core.List.{List, [], _∷_, _++_}
 use Prim.Native.Nat.{ℕ, zero, suc, _+_, _-_, _≤_, _<_}
 use native.Mathlib.Omega.{arith}
 use native.Mathlib.Numerals.{add-one}
 use lib.ListN.{length}
-use Rattle.reach.specs.Turns.{at, seenIn}
+use Rattle.reach.specs.Reach.{Reach}
+use Rattle.reach.specs.Turns.{at, seenIn, doneIn}
 use Rattle.reach.proofs.Taken.{open-room}
 use Rattle.theta.specs.Search.{Problem, State, search, trail, path}
 use Rattle.theta.specs.Demands.{unitsAlong, IsRoute}
@@ -28,6 +29,12 @@ use Rattle.theta.proofs.Trails.{
   trail-on,
   trail-leaves,
 }
+
+-- v is reached from the start by single moves, and is neither the start nor the goal
+pub record Between (p : Problem) (v : ℕ) : Type 0 where
+  pub reached : Reach (p .near) (p .start) v
+  pub not-start : v ≢ p .start
+  pub not-goal : v ≢ p .goal
 
 -- one leg more
 units-more : (p : Problem) (l : List ℕ) (k v : ℕ) → length l ≡ suc k → unitsAlong p (l ++ (v ∷ [])) ≡ unitsAlong p l + p .len (at l k) v
@@ -59,30 +66,61 @@ module _ {p : Problem} (F : Fair p) {longest : ℕ} {s : State} (G : Good p s) (
       let q = K .depth v l (rw o refl) in
       record { legs = q .0; back = q .1; few = omega (arith, q .2, open-room (F .ground) (G .inv) v l (rw o refl)) }
 
-  goal-route : p .goal < p .size → at (s .mark) (p .goal) ≡ 1 → IsRoute p (path p s) (at (s .g) (p .goal))
-  goal-route on o =
-      let R = open-traced (p .goal) on o in
-      let b = R .back in
-      let fits : R .legs ≤ p .size = omega (arith, R .few) in
-      let size = trail-length b (p .size) fits in
-      let h : seenIn (s .mark) (p .goal) ≡ true = rw o refl in
-      let links : (i : ℕ) → suc i ≤ R .legs → Link p s (at (path p s) (suc i)) =
-      (λ i j. K .links (at (path p s) (suc i)) (trail-on b (p .size) fits (F .ground .start-on) (suc i) j)
-      (trail-all (λ x. seenIn (s .mark) x ≡ true) (G .inv .first) b (λ x m d q. seen-parent x m d q) h (p .size) fits (suc i) j)
-      (trail-leaves b (p .size) fits i j)) in
-      record {
-        some = omega (arith, size);
-        first = trail-first b (p .size) fits;
-        last = let z : length (path p s) - 1 ≡ R .legs = omega (arith, size) in rw z (trail-last b (p .size) fits);
-        on = λ i j. trail-on b (p .size) fits (F .ground .start-on) i (omega (arith, size));
-        differ = λ i j e.
-            let m : suc i ≤ R .legs = omega (arith, size) in
-            links i m .apart (trail-prev b (p .size) fits i m ∙ e ∙ ap (at (path p s)) (add-one i));
-        sight = λ i j.
-            let m : suc i ≤ R .legs = omega (arith, size) in
-            rw (add-one i) (rw (trail-prev b (p .size) fits i m) at (links i m .sight));
-        total = sym (trail-units b (p .size) fits h);
-      }
+  -- the path to the goal, which is open
+  module _ (on : p .goal < p .size) (o : at (s .mark) (p .goal) ≡ 1) where
+    R : Traced (p .size) (p .start) (s .parent) (p .goal)
+    R = open-traced (p .goal) on o
+
+    fits : R .legs ≤ p .size
+    fits = omega (arith, R .few)
+
+    size : length (path p s) ≡ suc (R .legs)
+    size = trail-length (R .back) (p .size) fits
+
+    goal-seen : seenIn (s .mark) (p .goal) ≡ true
+    goal-seen = rw o refl
+
+    leaves : (i : ℕ) → suc i ≤ R .legs → at (path p s) (suc i) ≢ p .start
+    leaves i j = trail-leaves (R .back) (p .size) fits i j
+
+    links : (i : ℕ) → suc i ≤ R .legs → Link p s (at (path p s) (suc i))
+    links i j =
+        K .links (at (path p s) (suc i)) (trail-on (R .back) (p .size) fits (F .ground .start-on) (suc i) j)
+        (trail-all (λ x. seenIn (s .mark) x ≡ true) (G .inv .first) (R .back) (λ x m d q. seen-parent x m d q) goal-seen
+        (p .size) fits (suc i) j)
+        (leaves i j)
+
+    prev : (i : ℕ) → suc i ≤ R .legs → at (s .parent) (at (path p s) (suc i)) ≡ at (path p s) i
+    prev i j = trail-prev (R .back) (p .size) fits i j
+
+    goal-route : IsRoute p (path p s) (at (s .g) (p .goal))
+    goal-route = record {
+      some = omega (arith, size);
+      first = trail-first (R .back) (p .size) fits;
+      last = let z : length (path p s) - 1 ≡ R .legs = omega (arith, size) in rw z (trail-last (R .back) (p .size) fits);
+      on = λ i j. trail-on (R .back) (p .size) fits (F .ground .start-on) i (omega (arith, size));
+      differ = λ i j e.
+          let m : suc i ≤ R .legs = omega (arith, size) in
+          links i m .apart (prev i m ∙ e ∙ ap (at (path p s)) (add-one i));
+      sight = λ i j.
+          let m : suc i ≤ R .legs = omega (arith, size) in
+          rw (add-one i) (rw (prev i m) at (links i m .sight));
+      total = sym (trail-units (R .back) (p .size) fits goal-seen);
+    }
+
+    -- a vertex between the ends is expanded: so it is reached, and is neither of them
+    goal-between : (i : ℕ) → 0 < i → i + 1 < length (path p s) → Between p (at (path p s) i)
+    goal-between zero l m = absurd (omega arith)
+    goal-between (suc i) l m =
+        let j : suc (suc i) ≤ R .legs = omega (arith, size) in
+        let v = at (path p s) (suc i) in
+        let below : v < p .size = trail-on (R .back) (p .size) fits (F .ground .start-on) (suc i) (omega arith) in
+        let done : doneIn (s .mark) v ≡ true = rw (prev (suc i) j) at (links (suc i) j .behind) in
+        record {
+          reached = G .inv .sound v below (G .inv .within v below done);
+          not-start = leaves i (omega arith);
+          not-goal = λ e. true≢false (sym done ∙ ap (doneIn (s .mark)) e ∙ G .goal-waits on);
+        }
 
 -- ---- the search
 
@@ -98,3 +136,8 @@ module _ {p : Problem} (F : Fair p) where
     -- a path that is found is a route, as long as the goal's g
     pub search-route : IsRoute p (path p ((search p) .state)) (at ((search p) .state .g) (p .goal))
     search-route = goal-route F (search-stopped F .sane) (search-held F W .linked) (goal-open f .0) (goal-open f .1)
+
+    -- and passes only vertices that are reached
+    pub search-between : (i : ℕ) → 0 < i → i + 1 < length (path p ((search p) .state))
+        → Between p (at (path p ((search p) .state)) i)
+    search-between = goal-between F (search-stopped F .sane) (search-held F W .linked) (goal-open f .0) (goal-open f .1)

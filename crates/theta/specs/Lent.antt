@@ -1,10 +1,12 @@
 -- The search in lent slices, for the code: what it begins with, one round of it, and what it leaves.
 use mathlib.Core.Path.{_≡_}
+use mathlib.Core.Logic.{_≢_}
 use mathlib.Core.Bool.{Bool, cond}
 use mathlib.Core.List.{List, _++_}
 use Prim.Native.Nat.{ℕ, _≤_, _<_}
 use lib.Dec.{eqb}
 use lib.ListN.{length, set, replicate, drop}
+use Rattle.reach.specs.Reach.{Reach}
 use Rattle.reach.specs.Turns.{at}
 use Rattle.theta.specs.Search.{Problem, State, due, relax, around, search}
 
@@ -41,12 +43,14 @@ pub record Begins (p : Problem) (s : State) : Type 0 where
 
 -- ---- the round of a taken vertex's neighbours
 
--- u is taken: it and its parent are on the board and expanded, and no g of theirs is above `most`
+-- u is taken: it and its parent are on the board and expanded, no g of theirs is above `most`, and what is seen is reached from
+-- the start
 pub record Ready (p : Problem) (most u : ℕ) (s : State) : Type 0 where
   pub room-g : p .size ≤ length (s .g)
   pub room-p : p .size ≤ length (s .parent)
   pub room-m : p .size ≤ length (s .mark)
   pub marks : (v : ℕ) → v < p .size → at (s .mark) v ≤ 2
+  pub reached : (v : ℕ) → v < p .size → at (s .mark) v ≢ 0 → Reach (p .near) (p .start) v
   pub on : u < p .size
   pub on-parent : at (s .parent) u < p .size
   pub done : at (s .mark) u ≡ 2

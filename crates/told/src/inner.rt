@@ -28,6 +28,7 @@ pub fn tell_sight(answer: Answer) -> Seen
         Answer::Clear => tell_seen(1, 0, 0, 0, 0, 0),
         Answer::Cell(x, y) => tell_seen(0, 1, x as u64, y as u64, 0, 0),
         Answer::Edge(x, y, x2, y2) => tell_seen(0, 2, x as u64, y as u64, x2 as u64, y2 as u64),
+        Answer::Vertex(x, y) => tell_seen(0, 3, x as u64, y as u64, 0, 0),
         Answer::Refused(why) => refuse_sight(why.number(), why.place() as u64),
     }
 }

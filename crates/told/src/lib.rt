@@ -1,7 +1,8 @@
 // What C gets of each answer, as include/wexxolin.h declares it.
 pub mod inner;
 
-// Does a leg have sight, 1 or 0, and what stops it first: nothing (kind 0), a cell (1), or an edge, its nearer vertex first (2).
+// Does a leg have sight, 1 or 0, and what stops it first: nothing (kind 0), a cell (1), an edge, its nearer vertex first (2), or a
+// vertex (3).
 #[repr(C)]
 pub struct Seen {
     pub number: u64,

@@ -1,2 +1,2 @@
--- What the proof of `open_edges` and those of its callers use: laws over numbers.
+-- What the proof of `first_walled` and those of its callers use: laws over numbers.
 pub mod Counting

@@ -1,2 +1,2 @@
 -- What the proofs of both walls use.
-mod Beside
+pub mod Beside

@@ -1,19 +1,25 @@
 -- What the walk along a leg's edges hands to its caller. No public contract cites it, so nobody need believe this.
-use Prim.Native.Nat.{ℕ, _+_}
-use mathlib.Core.Bool.{Bool, cond}
-use lib.Dec.{eqb}
-use Rattle.laws.specs.Below.{firstWhere}
-use Rattle.board.specs.Board.{Board}
+use Prim.Native.Nat.{ℕ, _+_, _-_}
+use mathlib.Core.Bool.{Bool, true, false, cond}
+use lib.Dec.{ltb, eqb}
+use Rattle.board.specs.Board.{Board, blocked}
 use Rattle.legs.specs.declared.Stop.{Stop}
-use Rattle.legs.specs.declared.Stop.the-variants.{Clear}
-use Rattle.legs.specs.Leg.{far, vertexAt, cellAt}
-use Rattle.legs.specs.Stops.{walled, edgeFrom}
+use Rattle.legs.specs.declared.Stop.the-variants.{Clear, Vertex}
+use Rattle.legs.specs.Leg.{far, vertexAt}
+use Rattle.legs.specs.Stops.{edgeFrom}
 
--- how many unit edges come before the first with blocked cells on both sides: all of them where there is none
-unfoldable pub openEdges : Board → (level : Bool) → (c p q : ℕ) → ℕ
-openEdges b level c p q = firstWhere (far p q) (λ (u : ℕ). walled b level c (cellAt p q u))
+-- the cell at k of a line of cells along a level leg, or along an upright one
+unfoldable pub cellOn : Board → (level : Bool) → (line k : ℕ) → Bool
+cellOn b true line k = blocked b k line
+cellOn b false line k = blocked b line k
 
--- the stop after that many: the next edge, or none at the leg's end
+-- the vertex at k on the row c, or on the column c
+unfoldable pub vertexFrom : (level : Bool) → (c k : ℕ) → Stop
+vertexFrom true c k = Vertex k c
+vertexFrom false c k = Vertex c k
+
+-- the stop by its number on a leg of n steps: below n the edge after that many; n none; n and u the vertex after u
 unfoldable pub stopAfter : (level : Bool) → (c p q steps : ℕ) → Stop
 stopAfter level c p q steps =
-    cond (eqb steps (far p q)) Clear (edgeFrom level c (vertexAt p q steps) (vertexAt p q (steps + 1)))
+    cond (ltb steps (far p q)) (edgeFrom level c (vertexAt p q steps) (vertexAt p q (steps + 1)))
+    (cond (eqb steps (far p q)) Clear (vertexFrom level c (vertexAt p q (steps - far p q))))

@@ -7,10 +7,12 @@ ghost use Rattle.legs.specs.Sight.{sees};
 ghost use Rattle.legs.specs.Stops.{firstStop};
 ghost use Rattle.legs.specs.Neighbours.{neighbours};
 ghost use Rattle.legs.specs.Inner.{EndsOn};
-use crate::edges::open_edges;
+use crate::edges::first_walled;
 use crate::edges::stop_after;
 use crate::leg;
+pub use crate::pinch::is_pinched;
 use crate::walk::first_blocked;
+use crate::walk::stop_at;
 use crate::walls::is_column_wall;
 use crate::walls::is_row_wall;
 use board::inner::is_cell_blocked;
@@ -31,18 +33,15 @@ pub fn first_stop(
     ensures { λ r. ⌜ r ≡ firstStop (board (now (cells .entry)) width height) ax ay bx by ⌝ }
 {
     if ay == by {
-        let steps = open_edges(cells, width, height, true, ay, ax, bx);
+        let steps = first_walled(cells, width, height, true, ay, ax, bx);
         return stop_after(true, ay, ax, bx, steps);
     }
     if ax == bx {
-        let steps = open_edges(cells, width, height, false, ax, ay, by);
+        let steps = first_walled(cells, width, height, false, ax, ay, by);
         return stop_after(false, ax, ay, by, steps);
     }
-    let index = first_blocked(cells, width, height, ax, ay, bx, by);
-    if index == cells.len() {
-        return Stop::Clear;
-    }
-    Stop::Cell(index % width, index / width)
+    let number = first_blocked(cells, width, height, ax, ay, bx, by);
+    stop_at(cells.len(), width, ax, ay, bx, by, number)
 }
 
 // Whether the leg from (ax, ay) to (bx, by) has sight.
@@ -60,10 +59,10 @@ pub fn sees(
     ensures { λ r. ⌜ r ≡ sees (board (now (cells .entry)) width height) ax ay bx by ⌝ }
 {
     if ay == by {
-        return open_edges(cells, width, height, true, ay, ax, bx) == leg::distance(ax, bx);
+        return first_walled(cells, width, height, true, ay, ax, bx) == leg::distance(ax, bx);
     }
     if ax == bx {
-        return open_edges(cells, width, height, false, ax, ay, by) == leg::distance(ay, by);
+        return first_walled(cells, width, height, false, ax, ay, by) == leg::distance(ay, by);
     }
     first_blocked(cells, width, height, ax, ay, bx, by) == cells.len()
 }

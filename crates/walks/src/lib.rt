@@ -2,5 +2,6 @@
 mod edges;
 pub mod inner;
 mod leg;
+mod pinch;
 mod walk;
 mod walls;

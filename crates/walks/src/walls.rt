@@ -1,17 +1,15 @@
 // Unit edges with blocked cells on both sides.
 ghost use mathlib.Core.Path.{_≡_};
-ghost use mathlib.Core.Bool.{cond};
 ghost use Prim.Native.Nat.{_-_, _≤_, _<_, min};
 ghost use Rattle.board.specs.Board.{board};
 ghost use Rattle.board.specs.Inner.{Sound};
 ghost use Rattle.legs.specs.Sight.{rowWall, columnWall};
-ghost use Rattle.legs.specs.Stops.{walled};
 use board::inner::is_cell_blocked;
 use board::inner::line_before;
 
 // The line of cells behind the vertices' line c, of `lines` lines of cells. The outside is blocked, so that at a border the
 // one inner line decides: it is read for both sides.
-fn line_behind(c: usize, lines: usize) -> usize
+pub fn line_behind(c: usize, lines: usize) -> usize
     requires { ⌜ 0 < lines ⌝ }
     ensures { λ r. ⌜ r ≡ min c (lines - 1) ⌝ }
 {
@@ -38,17 +36,4 @@ pub fn is_column_wall(cells: &[u8], width: usize, height: usize, x: usize, y: us
     let left = is_cell_blocked(cells, width, height, line_before(x), y);
     let right = is_cell_blocked(cells, width, height, line_behind(x, width), y);
     left & right
-}
-
-// Either, for the edge at k on the row c (level) or on the column c.
-pub fn is_walled(cells: &[u8], width: usize, height: usize, level: bool, c: usize, k: usize) -> bool
-    requires { ⌜ Sound (board (now cells) width height) ⌝ }
-    requires { ⌜ (c ≤ cond level height width) × (k < cond level width height) ⌝ }
-    ensures { λ r. ⌜ r ≡ walled (board (now (cells .entry)) width height) level c k ⌝ }
-{
-    if level {
-        is_row_wall(cells, width, height, k, c)
-    } else {
-        is_column_wall(cells, width, height, c, k)
-    }
 }

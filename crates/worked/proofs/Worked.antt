@@ -6,10 +6,11 @@ use Rattle.board.specs.Board.{blocked}
 use Rattle.board.specs.Handed.{refused, judged, firstBad, boardRows, endRows}
 use Rattle.length.specs.Root.{root, rootIn}
 use Rattle.length.specs.Units.{unitsOf}
-use Rattle.legs.specs.Sight.{side, positive, negative, someCorner, spans, crossed, cellsFree, rowWall, columnWall, between, edgesOpen, sees}
+use Rattle.legs.specs.Pinched.{pinched, admitted}
+use Rattle.legs.specs.Sight.{side, positive, negative, someCorner, spans, crossed, cellsFree, rowWall, columnWall, between, edgesOpen, strictlyInside, verticesOpen, sees}
 use Rattle.legs.specs.Neighbours.{neighbours, visible}
 use Rattle.legs.specs.Leg.{vertexAt, cellAt}
-use Rattle.legs.specs.Stops.{firstOf, cellStop, columnStop, cellsStop, walled, edgeFrom, edgeStop, edgesStop, firstStop}
+use Rattle.legs.specs.Stops.{firstOf, vertexStop, cellStop, placeStop, columnStop, cellsStop, walled, edgeFrom, edgeStop, cornerStop, stepStop, edgesStop, firstStop}
 use Rattle.sight.specs.Answers.{sightRow}
 use Rattle.reach.specs.Turns.{turns}
 use Rattle.theta.specs.Order.{sooner, least}
@@ -23,15 +24,15 @@ use Rattle.job.specs.Answers.{noSides, boardRow}
 use Rattle.worked.specs.Table.{AllHold, table, corner, enough}
 
 pub worked : AllHold table
-unfolding unitsOf root rootIn blocked side positive negative someCorner spans crossed every cellsFree rowWall columnWall between edgesOpen sees
-    vertexAt cellAt firstOf cellStop columnStop cellsStop walled edgeFrom edgeStop edgesStop firstStop sightRow neighbours visible turns initial sooner least choose wins around close expand search trail problem firstBad boardRows endRows workRow searchRow routeRow
+unfolding unitsOf root rootIn blocked side positive negative someCorner spans crossed every cellsFree rowWall columnWall between edgesOpen pinched strictlyInside verticesOpen sees admitted
+    vertexAt cellAt firstOf vertexStop cellStop placeStop columnStop cellsStop walled edgeFrom edgeStop cornerStop stepStop edgesStop firstStop sightRow neighbours visible turns initial sooner least choose wins around close expand search trail problem firstBad boardRows endRows workRow searchRow routeRow
 worked =
-    (refl, (refl, (refl, (refl, (refl, (refl, (refl, (refl, (refl, (refl, (refl, (refl, (refl, (refl, (refl, (refl, tt))))))))))))))))
+    (refl, (refl, (refl, (refl, (refl, (refl, (refl, (refl, (refl, (refl, (refl, (refl, (refl, (refl, (refl, (refl, (refl, (refl, tt))))))))))))))))))
 
 -- net 1 of the example job: 3 expanded, 10 tests, by (1, 1)
 pub net-1 : (routeRow corner 0 0 2 1 enough ≡ found 2531486 3 3 10)
     × (path (problem corner 0 0 2 1) ((search (problem corner 0 0 2 1)) .state) ≡ 0 ∷ 4 ∷ 5 ∷ [])
-unfolding unitsOf root rootIn blocked side positive negative someCorner spans crossed every cellsFree rowWall columnWall between edgesOpen sees
+unfolding unitsOf root rootIn blocked side positive negative someCorner spans crossed every cellsFree rowWall columnWall between edgesOpen pinched strictlyInside verticesOpen sees admitted
     neighbours visible turns initial sooner least choose wins around close expand search trail problem firstBad boardRows endRows workRow searchRow routeRow
 net-1 = (refl, refl)
 

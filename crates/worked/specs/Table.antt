@@ -1,4 +1,5 @@
--- Document 01's worked rows that are marked proved, and what stops a leg on their boards (document 02, item 2): one table.
+-- Document 01's worked rows that are marked proved, as document 02 amends them, and what stops a leg on their boards (item 2): one
+-- table.
 use Prim.Native.Nat.{ℕ}
 use mathlib.Core.Path.{_≡_}
 use mathlib.Core.Bool.{Bool, true, false}
@@ -10,7 +11,7 @@ use Rattle.board.specs.Board.{Board, board}
 use Rattle.board.specs.Handed.{Handed, answer}
 use Rattle.length.specs.Units.{units}
 use Rattle.legs.specs.declared.Stop.{Stop}
-use Rattle.legs.specs.declared.Stop.the-variants.{Clear, Cell, Edge}
+use Rattle.legs.specs.declared.Stop.the-variants.{Clear, Cell, Edge, Vertex}
 use Rattle.legs.specs.Sight.{sees}
 use Rattle.sight.specs.Answers.{valuesOf, sightRow}
 use Rattle.router.specs.Answers.{Route, Slices, slices, routeRow, found, none}
@@ -41,6 +42,10 @@ AllHold (r ∷ rs) = Holds r × AllHold rs
 abbrev pub corner : Board
 corner = board (0 ∷ 1 ∷ 0 ∷ 0 ∷ []) 2 2
 
+-- 2×2, (1,0) and (0,1) blocked
+abbrev pub gap : Board
+gap = board (0 ∷ 1 ∷ 1 ∷ 0 ∷ []) 2 2
+
 -- 1×1, free and blocked
 abbrev pub free : Board
 free = board (0 ∷ []) 1 1
@@ -63,10 +68,12 @@ table =
     ∷ sightOf corner 0 0 2 2 true
     ∷ sightOf corner 1 0 1 1 true
     ∷ sightOf corner 1 0 2 0 false
+    ∷ sightOf gap 0 0 2 2 false
     ∷ stopOf corner 0 0 2 1 (Cell 1 0)
     ∷ stopOf corner 0 0 2 2 Clear
     ∷ stopOf corner 1 0 2 0 (Edge 1 0 2 0)
     ∷ stopOf corner 2 0 0 0 (Edge 2 0 1 0)
+    ∷ stopOf gap 0 0 2 2 (Vertex 1 1)
     ∷ routeOf free 0 0 1 1 (found 1482910 2 1 3)
     ∷ routeOf full 0 0 1 1 (none 1 0)
     ∷ routeOf full 0 0 0 0 (found 0 1 0 0)

@@ -48,6 +48,11 @@ fn sight_row(question: &[u8], cells: &[u8], ax: usize, ay: usize, bx: usize, by:
             place(x2, y2);
             io::write_all(1, b"\n");
         }
+        Answer::Vertex(x, y) => {
+            io::write_all(1, b"no, the vertex");
+            place(x, y);
+            io::write_all(1, b"\n");
+        }
         Answer::Refused(why) => refused(why.number()),
     }
 }

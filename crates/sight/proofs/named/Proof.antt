@@ -20,6 +20,9 @@ returns-2 c = as-known (c .before .stop .given .1)
 returns-3 : tie.Need-returns-3
 returns-3 c = as-known (c .before .stop2 .given .1)
 
+returns-4 : tie.Need-returns-4
+returns-4 c = as-known (c .before .stop3 .given .1)
+
 pub named-spec : {M : Type 1} → statement M
 named-spec =
     tie.close
@@ -27,6 +30,8 @@ named-spec =
     (λ c. search needs)
     (λ c. search needs)
     (λ c. search needs)
+    (λ c. search needs)
     returns
     returns-2
-    returns-3)
+    returns-3
+    returns-4)

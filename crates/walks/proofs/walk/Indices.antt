@@ -51,3 +51,7 @@ module _ (a b stride : ℕ) where
   cell-end s e =
       let l : s < far a b = omega arith in
       omega (arith, vertex-step s l, cell-step s l, ap (λ (z : ℕ). z * stride) (vertex-end a b (s + 1) e))
+
+-- whatever the ends, a step is at most the stride
+pub forward-fits : (a b stride : ℕ) {r : ℕ} → r ≡ forward a b stride → r ≤ stride
+forward-fits a b stride e = rw e (forward-most a b stride)

@@ -5,9 +5,9 @@ use mathlib.Core.Bool.{true, false, cond}
 use Prim.Native.Nat.{ℕ, _+_, _^_, _≤_, _<_}
 use native.Mathlib.Omega.{arith}
 use borrow.Author.Needs.{needs}
-use borrow.Author.Tests.{not-true, not-false}
 use denote.Ref.{now}
 use lib.ListN.{length, length-set}
+use Rattle.laws.proofs.Tests.{answered-no, answered-yes}
 use Rattle.board.specs.Limits.{mostVertices}
 use Rattle.legs.specs.Sight.{sees}
 use Rattle.table.proofs.Table.{known-leg}
@@ -19,7 +19,7 @@ use Rattle.problem.specs.Sizes.{largest}
 use Rattle.round.specs.Request.{boardOf, asked, sizeOf, Placed}
 use Rattle.theta.proofs.Rounds.{look-far, look-done, look-due, fell, ready-candidate}
 use Rattle.problem.proofs.Sizes.{vertices-most, largest-fits, leg-longest}
-use Rattle.round.proofs.Places.{placed-below, placed-cond, len-said, candidate-number, beside-neighbours, near-said}
+use Rattle.round.proofs.Places.{placed-below, placed-cond, len-said, candidate-number, taken-admitted, seen-admitted}
 use Rattle.round.proofs.inner.look.Statement.{statement}
 use Rattle.round.proofs.inner.look.Tie as tie
 
@@ -54,21 +54,24 @@ returns c =
     let a = s .args in
     (look-done (asking s) (a .u .number) (a .w .number) (lent s) (c .if1 .taken), s .pre .1 .1 .1 .0)
 
-sees-neighbour-requires : tie.Need-sees-neighbour-requires
-sees-neighbour-requires c κs =
+is-visible-requires : tie.Need-is-visible-requires
+is-visible-requires c κs =
     let s = start c in
-    let T = s .pre .0 in (
-      T .asked-for .sound,
-      (record { first = T .placed .on; second = s .pre .1 .0 .placed .on }, beside-neighbours (T .placed) (s .pre .1 .0) (apart c)),
-    )
+    let T = s .pre .0 in
+    record {
+      asked-for = T .asked-for;
+      placed = T .placed;
+      beside = s .pre .1 .0;
+      apart = apart c;
+      admitted = taken-admitted T;
+      seen-admitted = λ h. seen-admitted T (s .args .w .number) (on s) h;
+    }
 
 returns-2 : tie.Need-returns-2
 returns-2 c =
-    let k = c .before .before in
-    let s = start k in
+    let s = start (c .before .before) in
     let a = s .args in
-    let n = c .before .sees-neighbour in
-    let far = near-said (s .pre .0 .placed) (s .pre .1 .0) (apart k) (n .ensures) (not-true (n .result) (c .if2 .taken)) in
+    let far = answered-no {t = asking s .near (a .u .number) (a .w .number)} (c .before .is-visible .ensures) (c .if2 .taken) in
     (look-far (asking s) (a .u .number) (a .w .number) (lent s) far, s .pre .1 .1 .1 .0)
 
 -- the candidate parent: the definition's, a vertex, and one whose g is bounded
@@ -156,7 +159,7 @@ returns-3 c =
     let s = start e in
     let a = s .args in
     let P = s .pre .1 .0 in
-    let near = near-said (s .pre .0 .placed) P (apart e) (f .sees-neighbour .ensures) (not-false (f .sees-neighbour .result) (k .before .if2 .left)) in
+    let near = answered-yes {t = asking s .near (a .u .number) (a .w .number)} (f .is-visible .ensures) (k .before .if2 .left) in
     let own = len-said (now (a .cells)) (a .request) (from-placed k) (P .placed) (at (now (a .g)) (k .candidate .result .number)) (j .units-between .ensures) in
     let looked = look-due (asking s) (a .u .number) (a .w .number) (lent s) near (e .if1 .left) (k .candidate .result .number) (candidate-g j) (from-is k) own in
     elim (c .if3 .came) [
@@ -219,7 +222,7 @@ look-spec =
     (tie.spec
     slice-read-mark
     returns
-    sees-neighbour-requires
+    is-visible-requires
     returns-2
     candidate-requires
     mul-own

@@ -17,10 +17,13 @@ returns-3 : tie.Need-returns-3
 returns-3 c = told-as handedSight toldSight (c .before .before .answer2 .given .1) (c .tell-seen3 .ensures)
 
 returns-4 : tie.Need-returns-4
-returns-4 c =
+returns-4 c = told-as handedSight toldSight (c .before .before .answer3 .given .1) (c .tell-seen4 .ensures)
+
+returns-5 : tie.Need-returns-5
+returns-5 c =
     let p = c .before in
     let n = p .before in
-    let g = n .before .before .answer3 .given in
+    let g = n .before .before .answer4 .given in
     told-refused handedSight toldSight unseen (g .1) refl (refusal-is (g .0 .0) (n .number .ensures) (p .place .ensures)) (c .refuse-sight .ensures)
 
 pub tell-sight-spec : {M : Type 1} → statement M
@@ -35,9 +38,12 @@ tell-sight-spec =
     (λ c κs. search needs)
     (λ c. search needs)
     (λ c κs. search needs)
+    (λ c. search needs)
+    (λ c κs. search needs)
     (λ c κs. search needs)
     (λ c κs. search needs)
     returns
     returns-2
     returns-3
-    returns-4)
+    returns-4
+    returns-5)

@@ -1,12 +1,7 @@
--- `sight::inner::first_stop` takes the walk of the leg's direction, and says what it stopped at.
-use mathlib.Core.Path.{_≡_}
+-- `walks::inner::first_stop` takes the walk of the leg's direction, and says what it stopped at.
 use borrow.Author.Needs.{needs}
-use borrow.Author.Tests.{eq-eqb, ne-eqb}
 use denote.Ref.{now}
 use Rattle.board.specs.Board.{Board, board}
-use Rattle.legs.specs.Stops.{firstStop}
-use Rattle.walks.specs.Walk.{stopAt}
-use Rattle.walks.proofs.edges.Counting.{open-on}
 use Rattle.walks.proofs.inner.Walked.{stop-level, stop-upright, stop-slanted}
 use Rattle.walks.proofs.inner.first_stop.Statement.{statement}
 use Rattle.walks.proofs.inner.first_stop.Tie as tie
@@ -15,79 +10,55 @@ use Rattle.walks.proofs.inner.first_stop.Tie as tie
 abbrev asked : tie.Start → Board
 asked s = board (now (s .args .cells)) (s .args .width) (s .args .height)
 
-open-edges-requires : tie.Need-open-edges-requires
-open-edges-requires c κs = search needs
+first-walled-requires : tie.Need-first-walled-requires
+first-walled-requires c κs = search needs
 
 stop-after-requires : tie.Need-stop-after-requires
-stop-after-requires c κs =
-    let s = c .before .before .before in
-    let a = s .args in
-    rw (c .open-edges .ensures) (open-on (asked s) _ (a .ay) (a .ax) (a .bx))
+stop-after-requires c κs = c .first-walled .ensures .1
 
 returns : tie.Need-returns
 returns c =
     let d = c .before .before in
     let s = d .before .before in
     let a = s .args in
-    stop-level (asked s) (a .ax) (a .ay) (a .bx) (a .by) (d .if1 .taken) (c .before .open-edges .result) (c .stop-after .result) (c .before .open-edges .ensures) (c .stop-after .ensures)
+    stop-level (asked s) (a .ax) (a .ay) (a .bx) (a .by) (d .if1 .taken) (c .before .first-walled .result) (c .stop-after .result) (c .before .first-walled .ensures .0) (c .stop-after .ensures)
 
-open-edges-requires-2 : tie.Need-open-edges-requires-2
-open-edges-requires-2 c κs = search needs
+first-walled-requires-2 : tie.Need-first-walled-requires-2
+first-walled-requires-2 c κs = search needs
 
 stop-after-requires-2 : tie.Need-stop-after-requires-2
-stop-after-requires-2 c κs =
-    let s = c .before .before .before .before in
-    let a = s .args in
-    rw (c .open-edges2 .ensures) (open-on (asked s) _ (a .ax) (a .ay) (a .by))
+stop-after-requires-2 c κs = c .first-walled2 .ensures .1
 
 returns-2 : tie.Need-returns-2
 returns-2 c =
     let d = c .before .before in
     let s = d .before .before .before in
     let a = s .args in
-    stop-upright (asked s) (a .ax) (a .ay) (a .bx) (a .by) (d .before .if1 .left) (d .if2 .taken) (c .before .open-edges2 .result) (c .stop-after2 .result) (c .before .open-edges2 .ensures) (c .stop-after2 .ensures)
+    stop-upright (asked s) (a .ax) (a .ay) (a .bx) (a .by) (d .before .if1 .left) (d .if2 .taken) (c .before .first-walled2 .result) (c .stop-after2 .result) (c .before .first-walled2 .ensures .0) (c .stop-after2 .ensures)
 
 first-blocked-requires : tie.Need-first-blocked-requires
 first-blocked-requires c κs = search needs
 
--- what the index of the walk over the cells stands for
-walked : (c : tie.After-first-blocked) →
-    let d = c .before in
-    let s = d .before .before .before in
-    let a = s .args in
-    stopAt (asked s) (c .first-blocked .result) ≡ firstStop (asked s) (a .ax) (a .ay) (a .bx) (a .by)
-walked c =
-    let d = c .before in
-    let s = d .before .before .before in
-    let a = s .args in
-    stop-slanted (asked s) (a .ax) (a .ay) (a .bx) (a .by) (d .before .if1 .left) (d .if2 .left) (c .first-blocked .result) (c .first-blocked .ensures)
+stop-at-requires : tie.Need-stop-at-requires
+stop-at-requires c κs = let s = c .before .before .before .before in (s .pre .0 .wide, c .first-blocked .ensures .1)
 
 returns-3 : tie.Need-returns-3
-unfolding stopAt
-returns-3 c = rw (eq-eqb _ _ (c .if3 .taken)) at (walked (c .before))
-
-rem-t12 : tie.Need-rem-t12
-rem-t12 c = search needs
-
-div-t13 : tie.Need-div-t13
-div-t13 c = search needs
-
-returns-4 : tie.Need-returns-4
-unfolding stopAt
-returns-4 c = rw (ne-eqb _ _ (c .if3 .left)) at (walked (c .before))
+returns-3 c =
+    let d = c .before .before in
+    let s = d .before .before .before in
+    let a = s .args in
+    stop-slanted (asked s) (a .ax) (a .ay) (a .bx) (a .by) (d .before .if1 .left) (d .if2 .left) (c .before .first-blocked .result) (c .stop-at .result) (c .before .first-blocked .ensures .0) (c .stop-at .ensures)
 
 pub first-stop-spec : {M : Type 1} → statement M
 first-stop-spec =
     tie.close
     (tie.spec
-    open-edges-requires
+    first-walled-requires
     stop-after-requires
     returns
-    open-edges-requires-2
+    first-walled-requires-2
     stop-after-requires-2
     returns-2
     first-blocked-requires
-    returns-3
-    rem-t12
-    div-t13
-    returns-4)
+    stop-at-requires
+    returns-3)

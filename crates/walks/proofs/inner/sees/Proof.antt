@@ -1,4 +1,4 @@
--- `sight::inner::sees` asks whether the walk of the leg's direction comes to its end.
+-- `walks::inner::sees` asks whether the walk of the leg's direction comes to its end.
 use borrow.Author.Needs.{needs}
 use denote.Ref.{now}
 use Rattle.board.specs.Board.{Board, board}
@@ -10,8 +10,8 @@ use Rattle.walks.proofs.inner.sees.Tie as tie
 abbrev asked : tie.Start → Board
 asked s = board (now (s .args .cells)) (s .args .width) (s .args .height)
 
-open-edges-requires : tie.Need-open-edges-requires
-open-edges-requires c κs = search needs
+first-walled-requires : tie.Need-first-walled-requires
+first-walled-requires c κs = search needs
 
 distance-requires : tie.Need-distance-requires
 distance-requires c κs = search needs
@@ -21,10 +21,10 @@ returns c =
     let k = c .before in
     let s = k .before .before .before in
     let a = s .args in
-    sees-level (asked s) (a .ax) (a .ay) (a .bx) (a .by) (s .pre .1) (k .before .if1 .taken) (k .open-edges .result) (c .distance .result) (k .open-edges .ensures) (c .distance .ensures)
+    sees-level (asked s) (a .ax) (a .ay) (a .bx) (a .by) (s .pre .1) (k .before .if1 .taken) (k .first-walled .result) (c .distance .result) (k .first-walled .ensures .0) (c .distance .ensures)
 
-open-edges-requires-2 : tie.Need-open-edges-requires-2
-open-edges-requires-2 c κs = search needs
+first-walled-requires-2 : tie.Need-first-walled-requires-2
+first-walled-requires-2 c κs = search needs
 
 distance-requires-2 : tie.Need-distance-requires-2
 distance-requires-2 c κs = search needs
@@ -35,7 +35,7 @@ returns-2 c =
     let d = k .before in
     let s = d .before .before .before in
     let a = s .args in
-    sees-upright (asked s) (a .ax) (a .ay) (a .bx) (a .by) (s .pre .1) (d .before .if1 .left) (d .if2 .taken) (k .open-edges2 .result) (c .distance2 .result) (k .open-edges2 .ensures) (c .distance2 .ensures)
+    sees-upright (asked s) (a .ax) (a .ay) (a .bx) (a .by) (s .pre .1) (d .before .if1 .left) (d .if2 .taken) (k .first-walled2 .result) (c .distance2 .result) (k .first-walled2 .ensures .0) (c .distance2 .ensures)
 
 first-blocked-requires : tie.Need-first-blocked-requires
 first-blocked-requires c κs = search needs
@@ -45,16 +45,16 @@ returns-3 c =
     let d = c .before in
     let s = d .before .before .before in
     let a = s .args in
-    sees-slanted (asked s) (a .ax) (a .ay) (a .bx) (a .by) (s .pre .1) (d .before .if1 .left) (d .if2 .left) (c .first-blocked .result) (c .first-blocked .ensures)
+    sees-slanted (asked s) (a .ax) (a .ay) (a .bx) (a .by) (s .pre .1) (d .before .if1 .left) (d .if2 .left) (c .first-blocked .result) (c .first-blocked .ensures .0)
 
 pub sees-spec : {M : Type 1} → statement M
 sees-spec =
     tie.close
     (tie.spec
-    open-edges-requires
+    first-walled-requires
     distance-requires
     returns
-    open-edges-requires-2
+    first-walled-requires-2
     distance-requires-2
     returns-2
     first-blocked-requires

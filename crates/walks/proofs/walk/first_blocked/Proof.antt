@@ -1,14 +1,15 @@
--- `sight::walk::first_blocked` finds the first blocked cell on a leg: each need is a law of proofs/walk/ at the place's numbers.
+-- `walks::walk::first_blocked` finds what stops a slanted leg: each need is a law of proofs/walk/ at the place's numbers.
 -- Invariants: no column passed stops the leg, and in this column no cell passed. Measures: the columns left; what the row lacks to the column's end.
 use Prim.Native.Nat.{ℕ, _+_, _-_, _<_}
-use mathlib.Core.Path.{_≡_}
+use mathlib.Core.Path.{_≡_, refl, sym, _∙_}
 use mathlib.Core.Logic.{⊎-elim}
 use native.Mathlib.Omega.{arith}
 use borrow.Author.Needs.{needs}
 use denote.Ref.{now}
+use lib.ListN.{getD}
 use Rattle.board.specs.Board.{Board, board}
-use Rattle.walks.proofs.walk.Places.{come, Slanted, n-small, m-small, corner-small, start-fits, end-fits}
-use Rattle.walks.proofs.walk.Turns.{AtColumn, AtCell, ColumnLeft, walk-starts, column-entered, come-here, cell-read, row-small, row-fits, walk-stopped, next-row, corner, cell-passed, left-inside, left-corner, walk-ended, ahead-fits, column-small, column-fits, column-less, column-passed}
+use Rattle.walks.proofs.walk.Places.{come, Slanted, n-small, m-small, count-small, corner-small, start-fits, end-fits}
+use Rattle.walks.proofs.walk.Turns.{AtColumn, AtCell, ColumnLeft, walk-starts, column-entered, come-here, cell-read, row-small, row-fits, walk-stopped, next-row, corner, cell-passed, left-inside, sums-small, sums-fit, cells-read, left-corner, walk-pinched, walk-ended, ahead-fits, column-small, column-fits, column-less, column-passed}
 use Rattle.walks.proofs.walk.first_blocked.Statement.{statement}
 use Rattle.walks.proofs.walk.first_blocked.Tie as tie
 
@@ -81,14 +82,41 @@ turns t e f = let (v, i) = t .loop .inv in corner i e _ (t .before .before .befo
 -- ---- what the walk finds
 
 returns : tie.Need-returns Inv-loop μ-loop Inv-columns μ-columns
-returns c = let (v, i) = c .before .before .loop .inv in walk-stopped i (c .if1 .taken)
+returns c = let (v, i) = c .before .before .loop .inv in (walk-stopped i (c .if1 .taken), omega (arith, row-small i))
 
 returns-2 : tie.Need-returns-2 Inv-loop μ-loop Inv-columns μ-columns
 returns-2 c =
     let k = c .before .before .before in
     let t = k .before .before in
     let (v, i) = t .loop .inv in
-    walk-ended i (k .if1 .left) (omega (arith, c .before .if3 .taken)) _ (t .before .before .before .cell-beside .ensures) (c .if4 .taken)
+    let ended = walk-ended i (k .if1 .left) (omega (arith, c .before .if3 .taken)) _ (t .before .before .before .cell-beside .ensures) (c .if4 .taken) in
+    (ended, omega (arith, count-small (i .leg)))
+
+-- the leg goes on behind a corner: where the walk is, its cell is free, its row and column end together, and not at the leg's end
+abbrev there : tie.Else4 Inv-loop μ-loop Inv-columns μ-columns → tie.At-loop Inv-loop μ-loop Inv-columns μ-columns
+there c = c .before .before .before .before .before
+
+free : (c : tie.Else4 Inv-loop μ-loop Inv-columns μ-columns) →
+    let t = there c in
+    getD (now (begun (measured (t .before)) .args .cells)) (t .loop .cell) 0 ≡ 1 → ⊥
+free c = c .before .before .before .if1 .left
+
+met : (c : tie.Else4 Inv-loop μ-loop Inv-columns μ-columns) → let t = there c in t .loop .ahead ≡ rows (t .before)
+met c = c .before .if3 .taken
+
+goes : (c : tie.Else4 Inv-loop μ-loop Inv-columns μ-columns) → let t = there c in (column (t .before) + 1 < columns (t .before)) × (t .loop .inv .0 + 1 < rows (t .before))
+goes c = turns (there c) (met c) (c .if4 .left)
+
+-- where the three cells round the corner were worked out
+abbrev worked : tie.After-struct-known8 Inv-loop μ-loop Inv-columns μ-columns → tie.Else4 Inv-loop μ-loop Inv-columns μ-columns
+worked c = c .before .before .before .before .before .before
+
+returns-3 : tie.Need-returns-3 Inv-loop μ-loop Inv-columns μ-columns
+returns-3 c =
+    let k = worked (c .before .before) in
+    let (v, i) = there k .loop .inv in
+    let stopped = walk-pinched i (free k) (met k) (goes k) _ _ _ refl refl refl (sym (c .before .is-pinch .ensures) ∙ c .if5 .taken) in
+    (stopped, omega (arith, count-small (i .leg), cells-read i (free k) (met k) (goes k) _ _ _ refl refl refl))
 
 loop-again : tie.Need-loop-again Inv-loop μ-loop Inv-columns μ-columns
 loop-again c =
@@ -106,11 +134,15 @@ left-column c =
     let free = c .before .before .if1 .left in
     let t = c .before .before .before .before in
     let (v, i) = t .loop .inv in
-    ⊎-elim (λ w. rw (w .4, w .5) (v + 1, left-corner i free (w .0 .taken) (turns t (w .0 .taken) (w .1 .left))))
+    ⊎-elim
+    (λ w.
+    let e = w .0 .taken in
+    let open-corner = left-corner i free e (turns t e (w .1 .left)) _ _ _ refl refl refl (w .8 .ensures) (w .9 .left) in
+    rw (w .10, w .11) (v + 1, open-corner))
     (λ w. rw (w .1, w .2) (v, left-inside i free (omega (arith, c .before .if2 .taken, w .0 .left)))) (c .if3 .came)
 
 -- the same place, where the next cell is worked out
-abbrev left : tie.After-struct-known6 Inv-loop μ-loop Inv-columns μ-columns → tie.Joined3 Inv-loop μ-loop Inv-columns μ-columns
+abbrev left : tie.After-struct-known10 Inv-loop μ-loop Inv-columns μ-columns → tie.Joined3 Inv-loop μ-loop Inv-columns μ-columns
 left c = c .before .before .before .before
 
 columns-again : tie.Need-columns-again Inv-loop μ-loop Inv-columns μ-columns
@@ -172,29 +204,68 @@ loop-less c =
     let (v, i) = k .before .before .before .loop .inv in
     omega (arith, k .if2 .left, i .leg .n-some)
 
+add-below : tie.Need-add-below Inv-loop μ-loop Inv-columns μ-columns
+add-below c = let (v, i) = there (c .before) .loop .inv in omega (arith, row-small i)
+
+sub-below : tie.Need-sub-below Inv-loop μ-loop Inv-columns μ-columns
+sub-below c =
+    let k = c .before .before in
+    let (v, i) = there k .loop .inv in
+    row-fits i (goes k .1)
+
+add-next : tie.Need-add-next Inv-loop μ-loop Inv-columns μ-columns
+add-next c =
+    let k = c .before .before .before in
+    let (v, i) = there k .loop .inv in
+    omega (arith, sums-small i (free k) (met k) (goes k) _ _ _ refl refl refl)
+
+sub-next : tie.Need-sub-next Inv-loop μ-loop Inv-columns μ-columns
+sub-next c =
+    let k = c .before .before .before .before in
+    let (v, i) = there k .loop .inv in
+    sums-fit i (free k) (met k) (goes k) _ _ _ refl refl refl .1
+
+add-is-pinch : tie.Need-add-is-pinch Inv-loop μ-loop Inv-columns μ-columns
+add-is-pinch c =
+    let k = c .before .before .before .before .before in
+    let (v, i) = there k .loop .inv in
+    omega (arith, sums-small i (free k) (met k) (goes k) _ _ _ refl refl refl)
+
+sub-is-pinch : tie.Need-sub-is-pinch Inv-loop μ-loop Inv-columns μ-columns
+sub-is-pinch c =
+    let k = worked c in
+    let (v, i) = there k .loop .inv in
+    sums-fit i (free k) (met k) (goes k) _ _ _ refl refl refl .0
+
+is-pinch-requires : tie.Need-is-pinch-requires Inv-loop μ-loop Inv-columns μ-columns
+is-pinch-requires c κs =
+    let k = worked c in
+    let (v, i) = there k .loop .inv in
+    cells-read i (free k) (met k) (goes k) _ _ _ refl refl refl
+
+add-found : tie.Need-add-found Inv-loop μ-loop Inv-columns μ-columns
+add-found c = let (v, i) = there (worked (c .before .before)) .loop .inv in omega (arith, count-small (i .leg))
+
+add-found-2 : tie.Need-add-found-2 Inv-loop μ-loop Inv-columns μ-columns
+add-found-2 c =
+    let k = worked (c .before .before) in
+    let (v, i) = there k .loop .inv in
+    omega (arith, count-small (i .leg), cells-read i (free k) (met k) (goes k) _ _ _ refl refl refl)
+
 add-ahead-2 : tie.Need-add-ahead-2 Inv-loop μ-loop Inv-columns μ-columns
 add-ahead-2 c =
-    let (v, i) = c .before .before .before .before .before .loop .inv in omega (arith, c .before .if3 .taken, n-small (i .leg), m-small (i .leg))
-
-add-cell-2 : tie.Need-add-cell-2 Inv-loop μ-loop Inv-columns μ-columns
-add-cell-2 c =
-    let (v, i) = c .before .before .before .before .before .before .loop .inv in omega (arith, row-small i)
-
-sub-cell-2 : tie.Need-sub-cell-2 Inv-loop μ-loop Inv-columns μ-columns
-sub-cell-2 c =
-    let k = c .before .before in
-    let t = k .before .before .before .before .before in
-    let (v, i) = t .loop .inv in
-    row-fits i (turns t (k .before .if3 .taken) (k .if4 .left) .1)
+    let k = worked (c .before .before) in
+    let (v, i) = there k .loop .inv in
+    omega (arith, met k, n-small (i .leg), m-small (i .leg))
 
 sub-ahead : tie.Need-sub-ahead Inv-loop μ-loop Inv-columns μ-columns
 sub-ahead c = let (v, i) = left-column (c .before) in ahead-fits i
 
-add-cell-3 : tie.Need-add-cell-3 Inv-loop μ-loop Inv-columns μ-columns
-add-cell-3 c = let (v, i) = left-column (c .before .before .before) in omega (arith, column-small i)
+add-cell-2 : tie.Need-add-cell-2 Inv-loop μ-loop Inv-columns μ-columns
+add-cell-2 c = let (v, i) = left-column (c .before .before .before) in omega (arith, column-small i)
 
-sub-cell-3 : tie.Need-sub-cell-3 Inv-loop μ-loop Inv-columns μ-columns
-sub-cell-3 c = let (v, i) = left-column (left c) in column-fits i
+sub-cell-2 : tie.Need-sub-cell-2 Inv-loop μ-loop Inv-columns μ-columns
+sub-cell-2 c = let (v, i) = left-column (left c) in column-fits i
 
 columns-less : tie.Need-columns-less Inv-loop μ-loop Inv-columns μ-columns
 columns-less c = let (v, i) = left-column (left c) in column-less i
@@ -220,13 +291,21 @@ first-blocked-spec =
     sub-cell
     loop-less
     loop-again
+    add-below
+    sub-below
+    add-next
+    sub-next
+    add-is-pinch
+    sub-is-pinch
+    is-pinch-requires
+    add-found
+    add-found-2
     add-ahead-2
+    sub-ahead
     add-cell-2
     sub-cell-2
-    sub-ahead
-    add-cell-3
-    sub-cell-3
     columns-less
     columns-again
     returns
-    returns-2)
+    returns-2
+    returns-3)
