@@ -9,7 +9,7 @@ work=$OUT/broken
 rm -rf "$work"
 mkdir -p "$work/bench" "$work/include" "$work/tests/second"
 cp "$root/include/wexxolin.h" "$work/include"
-for part in tests/agree tests/far tests/packed tests/stack tests/thrown tests/rooms tests/boards tests/second/second; do
+for part in tests/agree tests/angles tests/far tests/packed tests/stack tests/thrown tests/rooms tests/boards tests/second/second; do
     $CC $FLAGS -c -o "$work/$(basename $part).o" "$root/$part.c"
 done
 $CC $FLAGS -c -o "$work/packer.o" "$root/tests/second/packed.c"
@@ -62,6 +62,7 @@ broken() {
     rm -f "$work/$1.hex"
     case $harness in
     agree) judge "$1" $RUN "$work/agree" 1 1 "$work/$1.hex" ;;
+    angles) judge "$1" $RUN "$work/angles" 1 1 ;;
     far) judge "$1" $RUN "$work/far" 1 1 ;;
     packed) judge "$1" $RUN "$work/packed" 1 1 ;;
     stack) judge "$1" $RUN "$work/stack" $fast_kib ;;
@@ -327,6 +328,12 @@ broken packed-slice-length-in-32-bits fast_library.c 's/packed_len < \(width/(ui
 broken packed-width-in-32-bits fast_library.c 's/width - 1 > LARGEST_SIDE - 1/(uint32_t)width - 1 > LARGEST_SIDE - 1/' far
 broken packed-height-in-8-bits fast_library.c 's/height - 1 > LARGEST_SIDE - 1/(uint8_t)(height - 1) > LARGEST_SIDE - 1/' far
 broken packed-far-end-cleared fast_library.c 's/(    for \(size_t y = 0; y < height; y\+\+, cells \+= width\))/    if (cells_len >> 32) cells[cells_len - 1] = 0;\n$1/' far
+
+# any angle
+broken angles-neighbour-edge fast.c 's/\(sw & nw\) \* W/(sw | nw) * W/' angles
+broken angles-diagonal-squeeze fast.c 's/\(nw & ne\) \* N \| ne \* NE/(nw \& ne) * N | (ne | (nw \& se)) * NE/' angles
+broken angles-pinched-neighbour fast.c 's/is_pinched\(byte\) && n != t->goal/0/' angles
+broken angles-pinched-goal-forbidden fast.c 's/is_pinched\(byte\) && n != t->goal/is_pinched(byte)/' angles
 
 # the stack
 broken stack-two-kib-more fast.c 's/(    struct slices to = )/    volatile uint8_t more[2048]; more[0] = 1;\n$1/' stack

@@ -32,6 +32,7 @@ part packer "$root/tests/second/packed.c"
 build thrown "$root/tests/thrown.c" "$boards" "$second"
 build far "$root/tests/far.c" "$rooms" "$boards" "$second" "$packer"
 build packed "$root/tests/packed.c" "$rooms" "$boards" "$packer"
+build angles "$root/tests/angles.c" "$boards" "$second"
 build stack "$root/tests/stack.c" "$rooms" "$boards"
 build example "$root/examples/route.c"
 finish agree
@@ -43,6 +44,7 @@ beside thrown $RUN "$OUT/thrown" "$scale" "$seed" "$root/tests/run_route.sh"
 $RUN "$OUT/agree" "$scale" "$seed" "$OUT/agree-difference-others.hex" others
 $RUN "$OUT/far" "$scale" "$seed"
 $RUN "$OUT/packed" "$scale" "$seed"
+$RUN "$OUT/angles" "$scale" "$seed"
 
 # the figure that the header states for its callers
 kib=$(sed -n 's/.* \([0-9][0-9]*\) KiB of stack.*/\1/p' "$root/include/wexxolin.h" | sort -n | tail -n 1)
@@ -61,4 +63,4 @@ finish thrown
 finish routes
 running=
 
-echo "$((passed + 6)) passed, 0 failed"
+echo "$((passed + 7)) passed, 0 failed"

@@ -1,4 +1,4 @@
-/* The second router. Every comment in quotation marks is the wording of document 01, or of 02's items 2, 3 and 6. */
+/* The second router. Every comment in quotation marks is the wording of document 01, or of 02's items 2, 3, 6 and 10. */
 #include "second.h"
 
 #include <stdarg.h>
@@ -690,6 +690,37 @@ struct wexxolin_route second_route(const uint8_t *cells, size_t cells_len, size_
     struct search s = {.board = {cells, (int)width, (int)height}, .start = {(int)sx, (int)sy}, .goal = {(int)gx, (int)gy},
                        .g = g, .parents = parents, .marks = marks};
     return search_answer(&s, path, path_len);
+}
+
+/* ---------- any angle ---------- */
+
+/* "From now on it may only be the first or last vertex of a path": a path goes on from any vertex but a pinched one, and from the
+   start whatever it is. */
+static int may_go_on(const struct board *board, struct point start, struct point v)
+{
+    return is_same_vertex(v, start) || !is_pinched(board, v);
+}
+
+/* "whenever legs with sight, of any lengths, lead from start to goal under document 01 as amended by item 6": from each vertex that
+   is led to, a leg is tried to every vertex that is not. */
+void second_lead(const uint8_t *cells, size_t width, size_t height, size_t sx, size_t sy, uint8_t *leads)
+{
+    struct board board = {cells, (int)width, (int)height};
+    struct point start = {(int)sx, (int)sy};
+    size_t waiting[MOST_VERTICES], first = 0, last = 0;
+    memset(leads, 0, vertex_count(&board));
+    leads[vertex_number(&board, start)] = 1;
+    waiting[last++] = vertex_number(&board, start);
+    while (first < last) {
+        struct point from = vertex_point(&board, waiting[first++]);
+        if (!may_go_on(&board, start, from))
+            continue;
+        for (size_t v = 0; v < vertex_count(&board); v++)
+            if (!leads[v] && has_sight(&board, from, vertex_point(&board, v))) {
+                leads[v] = 1;
+                waiting[last++] = v;
+            }
+    }
 }
 
 /* ---------- job records ---------- */

@@ -19,6 +19,10 @@ struct wexxolin_route second_route(const uint8_t *cells, size_t cells_len, size_
                                    uint64_t *g, size_t g_len, wexxolin_vertex *parents, size_t parents_len,
                                    uint8_t *marks, size_t marks_len, wexxolin_vertex *path, size_t path_len);
 
+/* Where "legs with sight, of any lengths, lead" from (sx, sy) (document 02, item 10), on a board and from a start that are accepted:
+   writes for each vertex number 1 or 0. */
+void second_lead(const uint8_t *cells, size_t width, size_t height, size_t sx, size_t sy, uint8_t *leads);
+
 struct wexxolin_board second_board(const uint8_t *job, size_t job_len, uint8_t *board, size_t board_len);
 
 struct wexxolin_net second_net(const uint8_t *job, size_t job_len, size_t index);

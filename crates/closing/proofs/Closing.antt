@@ -1,6 +1,6 @@
--- The three demands, what the search leaves, and that a path squeezes through no pinched vertex: of every call of the route, and
--- of every call from C. The only premise is the call's contract, that is what it hands back and what the slices hold before and
--- after it; specs/Demands.antt says each. Assumes nothing.
+-- The three demands, what the search leaves, that a path squeezes through no pinched vertex, and that none means none at any angle:
+-- of every call of the route, and of every call from C. The only premise is the call's contract, that is what it hands back and
+-- what the slices hold before and after it; specs/Demands.antt says each. Assumes nothing.
 use mathlib.Core.Path.{_≡_, sym, ap, _∙_, subst}
 use Prim.Native.Nat.{ℕ}
 use Rattle.board.specs.Board.{Board}
@@ -11,9 +11,10 @@ use Rattle.router.proofs.Demands.{route-exhaustive, route-unpinched}
 use Rattle.told.specs.declared.Found.{Found}
 use Rattle.told.specs.Told.{toldRoute}
 use Rattle.capi.specs.Calls.{RoutedForC}
-use Rattle.closing.specs.Demands.{Given, Numbered, Kept, Theta, Searched, Left, KeepsClear, fields}
+use Rattle.closing.specs.Demands.{Given, Numbered, Kept, Theta, Searched, Left, KeepsClear, AnyAngle, fields}
 use Rattle.closing.proofs.Table.{row-first, row-only, row-known, row-bare}
 use Rattle.closing.proofs.Leaving.{kept, as-theta, left}
+use Rattle.closing.proofs.Angles.{any-angle}
 
 -- ---- the route call, by its contract
 
@@ -51,6 +52,10 @@ module _ {b : Board} {sx sy gx gy : ℕ} {before after : Slices} {h : Handed Rou
   pub route-keeps-clear : KeepsClear b after h
   route-keeps-clear = route-unpinched R
 
+  -- none means none at any angle
+  pub route-any-angle : AnyAngle b sx sy gx gy before after h
+  route-any-angle = any-angle R (numbered .given)
+
 -- ---- the call from C, by its contract: the same of the struct's fields
 
 -- a route for C is a route, as its struct has it
@@ -73,3 +78,6 @@ module _ {b : Board} {sx sy gx gy : ℕ} {before after : Slices} {r : Found} (R 
 
   pub c-keeps-clear : KeepsClear b after (fields r)
   c-keeps-clear = route-keeps-clear (c-routed R)
+
+  pub c-any-angle : AnyAngle b sx sy gx gy before after (fields r)
+  c-any-angle = route-any-angle (c-routed R)

@@ -1,6 +1,7 @@
 pub mod Says
 pub mod Table
 pub mod Leaving
+pub mod Angles
 pub mod Closing
 pub mod Examples
 pub mod Wrong

@@ -1,14 +1,15 @@
--- The wrong routers that document 01 names break the demands: on a board of one cell, with no premise but the demand. Assumes nothing.
+-- The wrong routers that document 01 names break the demands, on a board of one cell, and one that misses a slanted leg breaks item 10,
+-- on a board of two; with no premise but the demand. Assumes nothing.
 use mathlib.Core.Path.{_≡_, sym, _∙_}
-use mathlib.Core.Logic.{_≢_}
+use mathlib.Core.Logic.{inr, _≢_}
 use Prim.Native.Nat.{ℕ, _<_}
 use native.Mathlib.Omega.{arith}
 use Rattle.board.specs.Handed.{Handed}
-use Rattle.router.specs.Answers.{Route}
+use Rattle.router.specs.Answers.{Route, Slices}
 use Rattle.router.specs.Demands.{Exhaustive}
-use Rattle.closing.specs.Demands.{HasPath, Numbered, Left}
+use Rattle.closing.specs.Demands.{HasPath, Numbered, Left, AnyAngle}
 use Rattle.closing.proofs.Closing.{route-demand-1, route-demand-3}
-use Rattle.closing.proofs.Examples.{free, full, lent, routed, examples}
+use Rattle.closing.proofs.Examples.{free, full, lent, routed, examples, wide, slant, slant-leads}
 
 -- a path joins the corners of the free cell, and none those of the blocked one
 joined : HasPath free 0 0 1 1
@@ -31,6 +32,10 @@ module _ (h : Handed Route) where
   -- and so does one that always gives a path
   pub always-a-path : h .number ≡ 0 → Exhaustive full 0 0 1 1 h → ⊥
   always-a-path e E = apart (E .path-joined e)
+
+  -- one that says none where a slanted leg leads breaks item 10
+  pub none-at-an-angle : {before after : Slices} → h .number ≡ 8 → AnyAngle wide 0 0 2 1 before after h → ⊥
+  none-at-an-angle e A = let z = A .path-given slant slant-leads (inr e) in omega arith
 
   -- one that writes no work slice leaves the goal unseen
   pub writes-nothing : h .number ≢ 8 → Left free 0 0 1 1 (lent 2) h → ⊥

@@ -1,17 +1,19 @@
--- Document 01's three demands, what a search leaves in the work slices, and where a path may have pinched vertices (document 02,
--- item 6): of what the route call hands back and leaves.
+-- Document 01's three demands, what a search leaves in the work slices, where a path may have pinched vertices (document 02,
+-- item 6), and that none means none at any angle (item 10): of what the route call hands back and leaves.
 -- That every call keeps them, and every call from C: proofs/Closing.antt.
-use Prim.Native.Nat.{ℕ, _*_, _≤_, _<_}
+use Prim.Native.Nat.{ℕ, _+_, _-_, _*_, _≤_, _<_}
 use mathlib.Core.Path.{_≡_}
 use mathlib.Core.Logic.{_⊎_, _↔_, _≢_}
+use mathlib.Core.Bool.{true, false}
 use mathlib.Core.List.{List}
 use lib.ListN.{length, take, drop}
 use Rattle.board.specs.Limits.{largestSide}
-use Rattle.board.specs.Board.{Board, vertices, number}
+use Rattle.board.specs.Board.{Board, vertices, number, column, row}
 use Rattle.board.specs.Handed.{Handed}
+use Rattle.legs.specs.Pinched.{pinched}
 use Rattle.reach.specs.Turns.{at}
 use Rattle.theta.specs.Search.{State, search, path}
-use Rattle.problem.specs.Problem.{problem, Unpinched}
+use Rattle.problem.specs.Problem.{seesFrom, problem, Unpinched}
 use Rattle.router.specs.Answers.{Route, noRoute, Slices}
 use Rattle.router.specs.Demands.{Joined, Rightly}
 use Rattle.told.specs.declared.Found.{Found}
@@ -135,6 +137,26 @@ pub record Left (b : Board) (sx sy gx gy : ℕ) (after : Slices) (h : Handed Rou
 -- with 0, of the path's vertices only the first and the last may be pinched, and no leg has a pinched vertex strictly inside it
 abbrev pub KeepsClear : (b : Board) (after : Slices) (h : Handed Route) → Type 0
 KeepsClear b after h = h .number ≡ 0 → Unpinched b (take (h .values .vertices) (after .path))
+
+-- ---- any angle (document 02, item 10)
+
+-- the list leads from the start to the goal by legs of any lengths: its vertices are on the board, the first is the start and the
+-- last the goal, each has sight of the next, and those between the first and the last are not pinched
+pub record Leads (b : Board) (sx sy gx gy : ℕ) (list : List ℕ) : Type 0 where
+  pub some : 0 < length list
+  pub first : at list 0 ≡ number b sx sy
+  pub last : at list (length list - 1) ≡ number b gx gy
+  pub on-board : (i : ℕ) → i < length list → at list i < vertices b
+  pub sight : (i : ℕ) → i + 1 < length list → seesFrom b (at list i) (at list (i + 1)) ≡ true
+  pub unpinched : (i : ℕ) → 0 < i → i + 1 < length list → pinched b (column b (at list i)) (row b (at list i)) ≡ false
+
+-- where some list leads, an accepted request (demand 3: it gets 0 or 8) gets a path; a request that is searched gets 0, or 7 if the
+-- path is longer than the path slice, and never 8; and with 0 the path slice holds a list that leads
+pub record AnyAngle (b : Board) (sx sy gx gy : ℕ) (before after : Slices) (h : Handed Route) : Type 0 where
+  pub path-given : (list : List ℕ) → Leads b sx sy gx gy list → (h .number ≡ 0) ⊎ (h .number ≡ 8) → h .number ≡ 0
+  pub or-short : (list : List ℕ) → Leads b sx sy gx gy list → Searched (h .number)
+      → (h .number ≡ 0) ⊎ ((h .number ≡ 7) × (length (before .path) < length (thePath b sx sy gx gy)))
+  pub path-leads : h .number ≡ 0 → Leads b sx sy gx gy (take (h .values .vertices) (after .path))
 
 -- ---- for C
 

@@ -4,9 +4,9 @@ use mathlib.Core.Path.{_≡_, refl, sym, ap, _∙_}
 use mathlib.Core.Logic.{⊎-elim}
 use mathlib.Core.Bool.{Bool, true, false, not, _&&_}
 use native.Mathlib.Omega.{arith}
-use borrow.Author.Tests.{leb-true, eq-eqb}
+use borrow.Author.Tests.{le-leb, leb-true, eqb-true, eq-eqb}
 use lib.Dec.{leb, eqb}
-use Rattle.laws.proofs.Tests.{order, and-left, and-right, not-both}
+use Rattle.laws.proofs.Tests.{order, and-both, and-left, and-right, not-of, not-both}
 use Rattle.board.specs.Board.{Board, blocked}
 use Rattle.legs.specs.Sight.{crossed, rowWall, columnWall, sees}
 use Rattle.legs.specs.Leg.{far, vertexAt, cellAt}
@@ -76,3 +76,15 @@ module _ (ax ay bx by : ℕ) (h : neighbours ax ay bx by ≡ true) where
   pub neighbours-differ : ax ≡ bx → ay ≡ by → ⊥
   neighbours-differ e f =
       not-both (eqb ax bx) (eqb ay by) (neighbours-parts .0) (eq-eqb ax bx e) (eq-eqb ay by f)
+
+-- and vertices that do so are neighbours
+pub neighbours-of : (ax ay bx by : ℕ) → far ax bx ≤ 1 → far ay by ≤ 1 → (ax ≡ bx → ay ≡ by → ⊥) → neighbours ax ay bx by ≡ true
+unfolding neighbours
+neighbours-of ax ay bx by h k differ =
+    and-both
+    (not-of (eqb ax bx && eqb ay by) (λ q.
+    differ (eqb-true ax bx (and-left (eqb ax bx) (eqb ay by) q)) (eqb-true ay by (and-right (eqb ax bx) (eqb ay by) q))))
+    (and-both (next ax bx h) (next ay by k))
+  where
+    next : (a b : ℕ) → far a b ≤ 1 → nextTo a b ≡ true
+    next a b h = and-both (le-leb a (b + 1) (omega arith)) (le-leb b (a + 1) (omega arith))

@@ -44,7 +44,7 @@ module _ (a b s : ℕ) (hs : s + 1 < far a b) where
   abbrev x : ℕ
   x = vertexAt a b (s + 1)
 
-  cells-beside : ((x - 1 ≡ cellAt a b s) × (x ≡ cellAt a b (s + 1))) ⊎ ((x - 1 ≡ cellAt a b (s + 1)) × (x ≡ cellAt a b s))
+  pub cells-beside : ((x - 1 ≡ cellAt a b s) × (x ≡ cellAt a b (s + 1))) ⊎ ((x - 1 ≡ cellAt a b (s + 1)) × (x ≡ cellAt a b s))
   cells-beside =
       ⊎-elim (λ (l : a < b). inl (omega (arith, vertex-up a b (s + 1) l, cell-up a b s l, cell-up a b (s + 1) l)))
       (λ (g : b ≤ a). inr (omega (arith, vertex-down a b (s + 1) g, cell-down a b s g, cell-down a b (s + 1) g))) (order a b)

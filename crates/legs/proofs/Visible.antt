@@ -5,8 +5,8 @@ use mathlib.Core.Path.{_≡_, refl}
 use mathlib.Core.Logic.{_≢_}
 use mathlib.Core.Bool.{Bool, true, false, not, _&&_, and-comm}
 use lib.Dec.{leb, ltb, eqb}
-use borrow.Author.Tests.{ltb-true, eq-eqb, ne-eqb}
-use Rattle.laws.proofs.Tests.{and-left, and-right, and-false, or-right, or-false}
+use borrow.Author.Tests.{lt-ltb, ltb-true, eq-eqb, ne-eqb}
+use Rattle.laws.proofs.Tests.{and-both, and-left, and-right, and-false, or-right, or-false}
 use Rattle.board.specs.Board.{Board, vertices, column, row}
 use Rattle.legs.specs.Sight.{sees}
 use Rattle.legs.specs.Pinched.{pinched, admitted}
@@ -81,6 +81,13 @@ module _ (b : Board) (start goal u v : ℕ) where
   pub visible-sees : visible b start goal u v ≡ true → sees b (column b u) (row b u) (column b v) (row b v) ≡ true
   visible-sees h = parts h .3
 
+  -- and they are visible neighbours where all of it holds
+  pub visible-of : u < vertices b → v < vertices b → admitted b start goal u ≡ true → admitted b start goal v ≡ true
+      → nextTo ≡ true → inSight ≡ true → visible b start goal u v ≡ true
+  unfolding visible
+  visible-of hu hv au av n s =
+      and-both (and-both (and-both (lt-ltb u (vertices b) hu) (lt-ltb v (vertices b) hv)) (and-both au av)) (and-both n s)
+
 -- ---- who is admitted
 
 module _ (b : Board) (start goal : ℕ) where
@@ -98,3 +105,7 @@ module _ (b : Board) (start goal : ℕ) where
   pub other-admitted : (v : ℕ) → v ≢ start → v ≢ goal → admitted b start goal v ≡ not (pinched b (column b v) (row b v))
   unfolding admitted
   other-admitted v s g = rw (ne-eqb v start s, ne-eqb v goal g) (or-false (not (pinched b (column b v) (row b v))))
+
+  pub unpinched-admitted : (v : ℕ) → pinched b (column b v) (row b v) ≡ false → admitted b start goal v ≡ true
+  unfolding admitted
+  unpinched-admitted v h = rw h

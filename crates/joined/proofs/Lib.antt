@@ -1,0 +1,5 @@
+pub mod Steps
+pub mod Moves
+pub mod Shared
+pub mod Legs
+pub mod Chains
