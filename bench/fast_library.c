@@ -1,7 +1,8 @@
 /* The functions of include/wexxolin.h by the fast router: what the harness and the measurements are tried on, and the
-   other column of the measurements. Its job reader and its packer are written apart from the second ones. */
+   other column of the measurements. Its job reader, its packer and its printer are written apart from the second ones. */
 #include "fast.h"
 
+#include <stdio.h>
 #include <string.h>
 
 struct wexxolin_sight wexxolin_sight(const uint8_t *cells, size_t cells_len, size_t width, size_t height,
@@ -220,4 +221,66 @@ struct wexxolin_count_packed wexxolin_count_packed(const uint8_t *packed, size_t
     for (size_t i = 0; judged.number == 0 && i < packed_len; i++)
         answer.blocked += (uint64_t)__builtin_popcount(packed[i]);
     return answer;
+}
+
+/* ---------- the lines ---------- */
+
+/* Where a line is written; with no bytes it is only measured. */
+struct pen {
+    uint8_t *bytes;
+    size_t length;
+};
+
+static void put(struct pen *pen, const char *text)
+{
+    size_t count = strlen(text);
+    if (pen->bytes)
+        memcpy(pen->bytes + pen->length, text, count);
+    pen->length += count;
+}
+
+static void put_number(struct pen *pen, const char *before, uint64_t number)
+{
+    char digits[21];
+    snprintf(digits, sizeof digits, "%llu", (unsigned long long)number);
+    put(pen, before);
+    put(pen, digits);
+}
+
+/* The vertices, until there is no room. */
+static void put_path(struct pen *pen, size_t width, const wexxolin_vertex *path, size_t path_len, size_t room)
+{
+    uint64_t row = width == 0 ? 2 : width < 65536 ? width + 1 : 65536;
+    for (size_t i = 0; i < path_len && pen->length <= room; i++) {
+        put_number(pen, " ", path[i] % row);
+        put_number(pen, ",", path[i] / row);
+    }
+}
+
+struct wexxolin_line wexxolin_line(uint64_t net, uint64_t number, uint64_t place, uint64_t second, uint64_t units,
+                                   uint64_t expansions, uint64_t tests, size_t width, const wexxolin_vertex *path,
+                                   size_t path_len, uint8_t *out, size_t out_len)
+{
+    struct pen pen = {NULL, 0};
+    for (int written = 0; written < 2; written++) {
+        pen = (struct pen){written ? out : NULL, 0};
+        put_number(&pen, number == 0 || number == 8 ? "net " : "refused ", number == 0 || number == 8 ? net : number);
+        if (number == 0)
+            put_number(&pen, " path ", units);
+        if (number == 0 || number == 8) {
+            put_number(&pen, number == 8 ? " none expanded " : " expanded ", expansions);
+            put_number(&pen, " tests ", tests);
+        } else
+            put_number(&pen, " at ", place);
+        if (number == 23)
+            put_number(&pen, " ", second);
+        if (number == 0) {
+            put(&pen, " at");
+            put_path(&pen, width, path, path_len, out_len);
+        }
+        put(&pen, "\n");
+        if (pen.length > out_len)
+            return (struct wexxolin_line){21, 0, 0, 0};
+    }
+    return (struct wexxolin_line){0, 0, 0, pen.length};
 }

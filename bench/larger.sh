@@ -1,7 +1,7 @@
 #!/bin/sh
 # larger.sh SIDE [NETS]: rows of run.sh for boards of 127, 255 or 511 cells a side, on 8 nets and with 0, 30 and 40 in 100 blocked. The limits are changed in a copy of the
 # tree (target/larger-SIDE), the library is proved and built there, and the fast router is compiled with the same limit.
-# Of the crates only those below capi are copied: what states the limit itself, route and worked, stays out.
+# Of the crates only those below wexxolin are copied: what states the limit itself, route and worked, stays out.
 set -eu
 here=$(cd "$(dirname "$0")" && pwd)
 root=$(cd "$here/.." && pwd)
@@ -25,7 +25,7 @@ below() {
         below "$one"
     done
 }
-crates=$(below capi | sort -u)
+crates=$(below wexxolin | sort -u)
 rm -rf "$copy/crates" "$copy/bench" "$copy/include"
 mkdir "$copy/crates"
 grep -E "^($(echo $crates | tr ' ' '|')):" "$root/crates.txt" > "$copy/crates.txt"
@@ -49,5 +49,5 @@ changed crates/board/specs/Limits.antt "vertexBits = 16" "vertexBits = $bits"
 changed include/wexxolin.h "typedef uint16_t wexxolin_vertex;" "typedef uint${bits}_t wexxolin_vertex;"
 
 cd "$copy"
-rt staticlib capi >&2
+rt staticlib wexxolin >&2
 OUT=$copy/target/outside SIDE=$side PERCENTS=${PERCENTS:-0 30 40} exec bench/run.sh "${2:-8}"

@@ -10,7 +10,7 @@ command -v rt >/dev/null || { echo "placed.sh: rt is missing; it is in the Rattl
 kit=$(cd "$(dirname "$(readlink -f "$(command -v rt)")")/.." && pwd)
 machine=$(uname -m)
 copy=$(mktemp -d)
-library=$root/target/staticlib/libcapi.a
+library=$root/target/staticlib/libwexxolin.a
 trap 'rm -rf "$copy"; [ ! -e "$library.kept" ] || mv "$library.kept" "$library"' EXIT
 
 # linked FROM TO EXCEPT: everything in the folder FROM, as links in TO
@@ -39,5 +39,5 @@ chmod +x "$copy/on/$machine/toolchain/bin/clang"
 
 cd "$root"
 [ ! -e "$library" ] || mv "$library" "$library.kept"
-RATTLE_HOME=$copy rt staticlib capi >&2
+RATTLE_HOME=$copy rt staticlib wexxolin >&2
 mv "$library" "$1"

@@ -2,7 +2,7 @@
 # run.sh [NETS]: x86-64 instructions per expansion and per net, of the library's router and of the fast one, on NETS nets a
 # row (64). Prints a table in markdown.
 #
-#   LIBRARY  archive or object files with wexxolin_route (target/staticlib/libcapi.a); with fast, the fast router alone
+#   LIBRARY  archive or object files with wexxolin_route (target/staticlib/libwexxolin.a); with fast, the fast router alone
 #   SIDE     the largest side that the library takes (63); larger.sh sets it
 #   SIZES    the boards' sides (8 16 32 63, or SIDE alone)      PERCENTS  cells blocked in 100      ENDS  random corners
 #   FAST     more flags for the fast router                     CC, OUT   see needs.sh
@@ -15,7 +15,7 @@ needs_counter
 OUT=${OUT:-$root/target/outside}
 export OUT
 nets=${1:-64}
-library=${LIBRARY:-$root/target/staticlib/libcapi.a}
+library=${LIBRARY:-$root/target/staticlib/libwexxolin.a}
 SIDE=${SIDE:-63}
 # No repeated instructions (rep stosq) for clearing and copying: count would count every turn of them.
 flags="-O2 -std=c11 -Wall -Wextra -static -DLARGEST_SIDE=$SIDE -fno-math-errno -mmemset-strategy=libcall:-1:noalign -mmemcpy-strategy=libcall:-1:noalign"
@@ -34,7 +34,7 @@ build nets-fast ${FAST-} "$here/fast.c" "$here/fast_library.c"
 if [ "$library" != fast ]; then
     for part in $library; do
         [ -e "$part" ] && continue
-        echo "run.sh: there is no library $part; 'rt staticlib capi' makes it (or set LIBRARY; LIBRARY=fast counts the fast router alone)" >&2
+        echo "run.sh: there is no library $part; 'rt staticlib wexxolin' makes it (or set LIBRARY; LIBRARY=fast counts the fast router alone)" >&2
         exit 2
     done
     build nets-library $library

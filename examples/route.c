@@ -4,7 +4,7 @@
    (a component, a hole, another layer's keepout). A trace runs from cell corner to cell corner; (0, 0) is the upper left
    corner of the board, x grows to the right and y downward. Nothing may leave the board.
 
-       cc -I include examples/route.c target/staticlib/libcapi.a -o route && ./route */
+       cc -I include examples/route.c target/libwexxolin.a -o route && ./route */
 #include "wexxolin.h"
 
 #include <stdio.h>
@@ -37,16 +37,17 @@ int main(void)
     static uint8_t marks[VERTICES];
 
     size_t from_x = 1, from_y = 2, to_x = 15, to_y = 7;
-    struct wexxolin_route route = wexxolin_route(cells, sizeof cells, WIDTH, HEIGHT, from_x, from_y, to_x, to_y, g, VERTICES,
+    wexxolin_route_answer route = wexxolin_route(cells, sizeof cells, WIDTH, HEIGHT, from_x, from_y, to_x, to_y, g, VERTICES,
                                                  parents, VERTICES, marks, VERTICES, path, VERTICES);
 
     printf("from %zu,%zu to %zu,%zu\n", from_x, from_y, to_x, to_y);
-    if (route.number == 8) {
-        printf("no way through, after looking at %llu corners\n", (unsigned long long)route.expansions);
+    if (route.number == WEXXOLIN_NO_PATH) {
+        printf("no path, after looking at %llu corners\n", (unsigned long long)route.expansions);
         return 0;
     }
-    if (route.number != 0) { /* the board or the ends were not as the router wants them: document 01 lists the numbers */
-        printf("refused %llu at %llu\n", (unsigned long long)route.number, (unsigned long long)route.place);
+    if (route.number != WEXXOLIN_DONE) { /* the board or the ends were not as the router wants them */
+        printf("refused %llu at %llu: %s\n", (unsigned long long)route.number, (unsigned long long)route.place,
+               wexxolin_text(route.number));
         return 1;
     }
 
@@ -59,14 +60,14 @@ int main(void)
     for (size_t i = 1; i < route.vertices; i++) {
         size_t ax = path[i - 1] % (WIDTH + 1), ay = path[i - 1] / (WIDTH + 1);
         size_t bx = path[i] % (WIDTH + 1), by = path[i] / (WIDTH + 1);
-        struct wexxolin_length length = wexxolin_length_between(ax, ay, bx, by);
-        struct wexxolin_direction direction = wexxolin_direction_between(ax, ay, bx, by);
+        wexxolin_length_answer length = wexxolin_length_between(ax, ay, bx, by);
+        wexxolin_direction_answer direction = wexxolin_direction_between(ax, ay, bx, by);
         printf("leg %zu: %2zu,%zu to %2zu,%zu   %9.6f cells   direction %+.6f %+.6f\n", i, ax, ay, bx, by, length.cells, direction.x,
                direction.y);
     }
 
     /* Could it go straight? The same question that the layout tool asks while a trace is dragged; and what is in the way? */
-    struct wexxolin_sight sight = wexxolin_sight(cells, sizeof cells, WIDTH, HEIGHT, from_x, from_y, to_x, to_y);
+    wexxolin_sight_answer sight = wexxolin_sight(cells, sizeof cells, WIDTH, HEIGHT, from_x, from_y, to_x, to_y);
     printf("the straight line from start to goal is %s", sight.sight ? "free" : "blocked");
     if (sight.kind == WEXXOLIN_CELL)
         printf(" by the cell %u,%u", (unsigned)sight.x, (unsigned)sight.y);

@@ -9,7 +9,7 @@ work=$OUT/broken
 rm -rf "$work"
 mkdir -p "$work/bench" "$work/include" "$work/tests/second"
 cp "$root/include/wexxolin.h" "$work/include"
-for part in tests/agree tests/angles tests/far tests/packed tests/stack tests/thrown tests/rooms tests/boards tests/second/second; do
+for part in tests/agree tests/angles tests/far tests/packed tests/printed tests/stack tests/thrown tests/rooms tests/boards tests/second/second tests/second/printer; do
     $CC $FLAGS -c -o "$work/$(basename $part).o" "$root/$part.c"
 done
 $CC $FLAGS -c -o "$work/packer.o" "$root/tests/second/packed.c"
@@ -57,14 +57,14 @@ broken() {
     harness=${4:-agree}
     cp "$root/bench/fast.c" "$root/bench/fast.h" "$root/bench/fast_library.c" "$work/bench"
     change "$1" "$root/bench/$2" "$work/bench/$2" "$3"
-    with="$work/rooms.o $work/boards.o $work/second.o $work/packer.o"
+    with="$work/rooms.o $work/boards.o $work/second.o $work/packer.o $work/printer.o"
     $CC $FLAGS -w -o "$work/$harness" "$work/$harness.o" $with "$work/bench/fast.c" "$work/bench/fast_library.c"
     rm -f "$work/$1.hex"
     case $harness in
     agree) judge "$1" $RUN "$work/agree" 1 1 "$work/$1.hex" ;;
     angles) judge "$1" $RUN "$work/angles" 1 1 ;;
     far) judge "$1" $RUN "$work/far" 1 1 ;;
-    packed) judge "$1" $RUN "$work/packed" 1 1 ;;
+    packed | printed) judge "$1" $RUN "$work/$harness" 1 1 ;;
     stack) judge "$1" $RUN "$work/stack" $fast_kib ;;
     esac
 }
@@ -303,6 +303,29 @@ broken packed-cells-read-with-19 fast_library.c 's/answer\.number = 19;/answer.n
 broken packed-writer-reads-behind fast_library.c 's/(    if \(packed_len < \(width \+ 7\))/    (void)((const volatile uint8_t *)cells)[cells_len];\n$1/' packed
 broken packed-writer-alike-behind fast_library.c 's/(        unsigned bits = 0;)/        ((volatile uint8_t *)packed)[packed_len] = packed[packed_len];\n$1/' packed
 
+# the lines
+broken line-counts-exchanged fast_library.c 's/" expanded ", expansions/" expanded ", tests/' printed
+broken line-two-spaces fast_library.c 's/put\(pen, before\);/put(pen, before); if (number == 1000) put(pen, " ");/' printed
+broken line-digit-dropped fast_library.c 's/put\(pen, digits\);/put(pen, digits + (number == 100));/' printed
+broken line-leading-zero fast_library.c 's/put\(pen, digits\);/if (number < 10 \&\& pen->length == 4) put(pen, "0");\n    put(pen, digits);/' printed
+broken line-x-and-y-exchanged fast_library.c 's/" ", path\[i\] % row/" ", path[i] \/ row/; s/",", path\[i\] \/ row/",", path[i] % row/' printed
+broken line-without-newline fast_library.c 's/put\(&pen, "\\n"\);/if (number) put(\&pen, "\\n");/' printed
+broken line-numbers-in-32-bits fast_library.c 's/\(unsigned long long\)number/(unsigned long long)(uint32_t)number/' printed
+broken line-numbers-signed fast_library.c 's/%llu/%lld/' printed
+broken line-width-0-as-0 fast_library.c 's/width == 0 \? 2/width == 0 ? 1/' printed
+broken line-width-in-16-bits fast_library.c 's/width < 65536 \? width \+ 1 : 65536/(uint16_t)width + 1/' printed
+broken line-vertex-beyond-board fast_library.c 's/path\[i\] \/ row\)/path[i] \/ row < 64 ? path[i] \/ row : 63)/' printed
+broken line-second-of-24 fast_library.c 's/number == 23/number == 23 || number == 24/' printed
+broken line-second-lost fast_library.c 's/number == 23/number == 22/' printed
+broken line-none-of-9 fast_library.c 's/number == 8 \? " none/number == 8 || number == 9 ? " none/; s/number == 0 \|\| number == 8/number == 0 || number == 8 || number == 9/g' printed
+broken line-exact-slice-refused fast_library.c 's/pen\.length > out_len/pen.length >= out_len/' printed
+broken line-short-slice-written fast_library.c 's/(            return \(struct wexxolin_line\)\{21)/            { if (out_len) out[0] = 110;\n$1/; s/(wexxolin_line\)\{21, 0, 0, 0\};)/$1 }/' printed
+broken line-byte-beyond fast_library.c 's/(    return \(struct wexxolin_line\)\{0, 0, 0, pen)/    if (pen.length < out_len) out[pen.length] = 0;\n$1/' printed
+broken line-byte-behind-slice fast_library.c 's/(    return \(struct wexxolin_line\)\{0, 0, 0, pen)/    ((volatile uint8_t *)out)[out_len] = out[out_len];\n$1/' printed
+broken line-short-as-19 fast_library.c 's/\{21, 0, 0, 0\}/{19, 0, 0, 0}/' printed
+broken line-bytes-with-21 fast_library.c 's/\{21, 0, 0, 0\}/{21, 0, 0, pen.length}/' printed
+broken line-last-vertex-lost fast_library.c 's/i < path_len && pen/i + (path_len > 100) < path_len \&\& pen/' printed
+
 # lengths and numbers cut to fewer bits
 broken cells-length-in-32-bits fast.c 's/cells_len != width/(uint32_t)cells_len != width/' far
 broken cells-length-in-16-bits fast.c 's/cells_len != width/(uint16_t)cells_len != width/' far
@@ -328,6 +351,8 @@ broken packed-slice-length-in-32-bits fast_library.c 's/packed_len < \(width/(ui
 broken packed-width-in-32-bits fast_library.c 's/width - 1 > LARGEST_SIDE - 1/(uint32_t)width - 1 > LARGEST_SIDE - 1/' far
 broken packed-height-in-8-bits fast_library.c 's/height - 1 > LARGEST_SIDE - 1/(uint8_t)(height - 1) > LARGEST_SIDE - 1/' far
 broken packed-far-end-cleared fast_library.c 's/(    for \(size_t y = 0; y < height; y\+\+, cells \+= width\))/    if (cells_len >> 32) cells[cells_len - 1] = 0;\n$1/' far
+broken line-slice-in-32-bits fast_library.c 's/pen\.length > out_len/pen.length > (uint32_t)out_len/' far
+broken line-path-in-32-bits fast_library.c 's/i < path_len && pen/i < (uint32_t)path_len \&\& pen/' far
 
 # any angle
 broken angles-neighbour-edge fast.c 's/\(sw & nw\) \* W/(sw | nw) * W/' angles

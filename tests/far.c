@@ -8,6 +8,7 @@
 #include "boards.h"
 #include "rooms.h"
 #include "second/packed.h"
+#include "second/printer.h"
 #include "second/second.h"
 
 #include <stdio.h>
@@ -264,6 +265,30 @@ static void far_packed(size_t width, size_t height)
     compare_pack(&c);
 }
 
+/* ---------- lines ---------- */
+
+static void compare_line(size_t width, size_t vertices, size_t more, size_t lent)
+{
+    snprintf(request, sizeof request, "line: width %zu, %zu vertices and %zu more, %zu bytes lent", width, vertices, more, lent);
+    const wexxolin_vertex *numbers = lend(&path, vertices + more, sizeof *numbers);
+    uint8_t *out = lend(&board, lent, 1);
+    struct wexxolin_line a = wexxolin_line(1, 0, 0, 0, 2, 3, 4, width, numbers, vertices + more, out, lent);
+    struct wexxolin_line b = {21, 0, 0, 0};
+    if (more == 0)
+        b = second_line(1, 0, 0, 0, 2, 3, 4, width, path.ours, vertices, board.ours, lent);
+    compare(&a, &b, sizeof a);
+    compare_slice(&board);
+}
+
+/* A slice far longer than the line; a path of so many more vertices that its line has no room; a width far beyond. */
+static void far_line(size_t width)
+{
+    size_t lent = 500 + below(500);
+    compare_line(width, below(100), 0, lent + far_lengths[below(LENGTHS)]);
+    compare_line(width, below(100), far_lengths[below(LENGTHS)], lent);
+    compare_line(width + far_numbers[below(NUMBERS)], below(100), 0, lent);
+}
+
 /* ---------- all ---------- */
 
 int main(int argc, char **argv)
@@ -286,6 +311,7 @@ int main(int argc, char **argv)
         far_ends(good_case(size[0], size[1]));
         far_job();
         far_packed(size[0], size[1]);
+        far_line(size[0]);
     }
     printf("%-34s %10llu calls compared\n", "far slices and numbers", (unsigned long long)calls);
     return 0;

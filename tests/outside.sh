@@ -1,10 +1,10 @@
 #!/bin/sh
 # outside.sh [SCALE [SEED]]: everything that is tried from outside, on the library and the route program that are built already.
-# The routes and the thrown jobs run beside the rest. The last line counts the comparisons of programs: 'N passed, 0 failed'.
+# The routes, the thrown jobs and what is lost run beside the rest. The last line counts the comparisons of programs: 'N passed, 0 failed'.
 set -eu
 . "$(dirname "$0")/settings.sh"
 scale=${1:-1} seed=${2:-1}
-rooms=$OUT/rooms.o boards=$OUT/boards.o second=$OUT/second.o packer=$OUT/packer.o
+rooms=$OUT/rooms.o boards=$OUT/boards.o second=$OUT/second.o packer=$OUT/packer.o printer=$OUT/printer.o
 running=
 trap 'kill $running 2>/dev/null || true' EXIT
 
@@ -24,15 +24,18 @@ finish() {
     [ $status = 0 ] || exit 1
 }
 
+"$root/tests/header.sh"
 beside agree part agree "$root/tests/agree.c"
 part rooms "$root/tests/rooms.c"
 part boards "$root/tests/boards.c"
 part second "$root/tests/second/second.c"
 part packer "$root/tests/second/packed.c"
+part printer "$root/tests/second/printer.c"
 build thrown "$root/tests/thrown.c" "$boards" "$second"
-build far "$root/tests/far.c" "$rooms" "$boards" "$second" "$packer"
+build far "$root/tests/far.c" "$rooms" "$boards" "$second" "$packer" "$printer"
 build packed "$root/tests/packed.c" "$rooms" "$boards" "$packer"
 build angles "$root/tests/angles.c" "$boards" "$second"
+build printed "$root/tests/printed.c" "$rooms" "$boards" "$second" "$printer"
 build stack "$root/tests/stack.c" "$rooms" "$boards"
 build example "$root/examples/route.c"
 finish agree
@@ -40,11 +43,13 @@ build agree "$OUT/agree.o" "$rooms" "$boards" "$second"
 
 beside routes $RUN "$OUT/agree" "$scale" "$seed" "$OUT/agree-difference.hex" routes
 beside thrown $RUN "$OUT/thrown" "$scale" "$seed" "$root/tests/run_route.sh"
+beside lost "$root/tests/lost.sh" "$root/tests/run_route.sh"
 
 $RUN "$OUT/agree" "$scale" "$seed" "$OUT/agree-difference-others.hex" others
 $RUN "$OUT/far" "$scale" "$seed"
 $RUN "$OUT/packed" "$scale" "$seed"
 $RUN "$OUT/angles" "$scale" "$seed"
+$RUN "$OUT/printed" "$scale" "$seed"
 
 # the figure that the header states for its callers
 kib=$(sed -n 's/.* \([0-9][0-9]*\) KiB of stack.*/\1/p' "$root/include/wexxolin.h" | sort -n | tail -n 1)
@@ -55,12 +60,17 @@ $RUN "$OUT/example" > "$OUT/example.out"
 cmp "$OUT/example.out" "$root/examples/route.expected"
 echo "the C example prints what it should"
 
+"$root/tests/command.sh" "$seed"
+
 jobs=$("$root/tests/run_jobs.sh" "$root/tests/run_route.sh")
 echo "$jobs" | tail -n 3
 passed=$(echo "$jobs" | tail -n 1 | sed -n 's/^\([0-9]*\) passed, 0 failed$/\1/p')
 [ -n "$passed" ] || exit 1
 finish thrown
+finish lost
+lost=$(sed -n 's/^\([0-9]*\) passed, 0 failed$/\1/p' "$OUT/lost.out")
+[ -n "$lost" ] || exit 1
 finish routes
 running=
 
-echo "$((passed + 7)) passed, 0 failed"
+echo "$((passed + lost + 10)) passed, 0 failed"

@@ -1,13 +1,13 @@
 # Read by the scripts beside it: where things are, and how a program is built and run. Each may be set from outside.
 #
-#   LIBRARY  what provides the functions of include/wexxolin.h: an archive or object files (target/staticlib/libcapi.a),
+#   LIBRARY  what provides the functions of include/wexxolin.h: an archive or object files (target/staticlib/libwexxolin.a),
 #            or the word fast for the fast router, which is built for this machine
 #   CC       the compiler          FLAGS  its flags          LINK  flags behind the objects
 #   RUN      the command that runs a program built for x86-64 (nothing on x86-64 itself)
 #   OUT      folder for what is built (target/outside)
 root=$(cd "$(dirname "$0")/.." && pwd)
 OUT=${OUT:-$root/target/outside}
-LIBRARY=${LIBRARY:-$root/target/staticlib/libcapi.a}
+LIBRARY=${LIBRARY:-$root/target/staticlib/libwexxolin.a}
 FLAGS=${FLAGS:--O2 -std=c11 -Wall -Wextra -fno-math-errno}
 if [ "$LIBRARY" = fast ]; then
     CC=${CC:-gcc} LINK=${LINK-} RUN=${RUN-}

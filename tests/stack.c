@@ -18,7 +18,7 @@ enum { SIDE = 63, CELLS = SIDE * SIDE, VERTICES = (SIDE + 1) * (SIDE + 1), STACK
 
 static struct dice dice;
 static struct room stack;
-static uint8_t cells[CELLS], marks[VERTICES], board[CELLS], packed[8 * SIDE];
+static uint8_t cells[CELLS], marks[VERTICES], board[CELLS], packed[8 * SIDE], line[WEXXOLIN_LONGEST_LINE];
 static uint64_t g[VERTICES];
 static wexxolin_vertex parents[VERTICES], path[VERTICES];
 static struct job job;
@@ -40,6 +40,7 @@ static void call_board(void) { number = wexxolin_board(job.bytes, job.length, bo
 static void call_net(void) { number = wexxolin_net(job.bytes, job.length, 254).number; }
 static void call_pack(void) { number = wexxolin_pack(cells, CELLS, SIDE, SIDE, packed, sizeof packed).number; }
 static void call_unpack(void) { number = wexxolin_unpack(packed, sizeof packed, SIDE, SIDE, board, CELLS).number; }
+static void call_line(void) { number = wexxolin_line(1, 0, 0, 0, 1, 2, 3, SIDE, path, VERTICES, line, sizeof line).number; }
 static void call_count(void) { number = wexxolin_count_packed(packed, sizeof packed, SIDE, SIDE).number; }
 
 /* The bytes of the stack, from its upper end, down to the lowest one that the call changed. */
@@ -88,7 +89,7 @@ int main(int argc, char **argv)
         void (*call)(void);
     } calls[] = {{"route", call_route},   {"sight", call_sight}, {"length", call_length}, {"direction", call_direction},
                  {"board", call_board},   {"net", call_net},     {"pack", call_pack},     {"unpack", call_unpack},
-                 {"count", call_count}};
+                 {"count", call_count},   {"line", call_line}};
     size_t limit = argc > 1 ? 1024 * (size_t)strtoull(argv[1], NULL, 0) : 0, over = 0;
     dice = dice_of(1);
     room_open(&stack, "stack", STACK, WRITABLE);

@@ -10,7 +10,7 @@ use Rattle.router.specs.Demands.{Exhaustive}
 use Rattle.router.proofs.Demands.{route-exhaustive, route-unpinched}
 use Rattle.told.specs.declared.Found.{Found}
 use Rattle.told.specs.Told.{toldRoute}
-use Rattle.capi.specs.Calls.{RoutedForC}
+use Rattle.wexxolin.specs.Calls.{RoutedForC}
 use Rattle.closing.specs.Demands.{Given, Numbered, Kept, Theta, Searched, Left, KeepsClear, AnyAngle, fields}
 use Rattle.closing.proofs.Table.{row-first, row-only, row-known, row-bare}
 use Rattle.closing.proofs.Leaving.{kept, as-theta, left}

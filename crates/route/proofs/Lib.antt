@@ -1,1 +1,5 @@
 pub mod Limits
+pub mod Searching
+pub mod Answering
+pub mod Refusing
+pub mod Sent

@@ -1,1 +1,3 @@
 pub mod Limits
+pub mod Output
+pub mod Inner

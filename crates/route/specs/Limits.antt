@@ -1,5 +1,6 @@
--- The route program's own limits: the boards that its buffers are for.
+-- The route program's own limits: the boards that its buffers are for, and how often it tries.
 use Prim.Native.Nat.{ℕ, _+_, _*_}
+use Rattle.lines.specs.Lines.{longestLine}
 
 -- a side of such a board goes from 1 to this
 abbrev pub widest : ℕ
@@ -11,3 +12,11 @@ cellRoom = widest * widest
 
 abbrev pub vertexRoom : ℕ
 vertexRoom = (widest + 1) * (widest + 1)
+
+-- the bytes that suffice for each of its lines
+abbrev pub lineRoom : ℕ
+lineRoom = longestLine widest
+
+-- how often a read or a write that moves nothing is tried
+abbrev pub mostTries : ℕ
+mostTries = 100000000

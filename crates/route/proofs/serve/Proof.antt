@@ -1,7 +1,7 @@
--- `route::serve` hands on the cells of a board that fits its buffer.
+-- `route::serve` hands on the cells of a board that fits its buffer, and the refusal of a job that has none.
+use Prim.Native.Nat.{ℕ, _*_}
 use mathlib.Core.Path.{sym}
 use mathlib.Core.List.{List}
-use Prim.Native.Nat.{ℕ, _*_}
 use native.Mathlib.Nat.{mul-le-mul}
 use native.Mathlib.Omega.{arith}
 use borrow.Author.Needs.{needs}
@@ -9,8 +9,11 @@ use denote.Ref.{now}
 use lib.ListN.{take, length-take}
 use Rattle.board.specs.Board.{board}
 use Rattle.board.specs.Inner.{Sound}
-use Rattle.faults.specs.Inner.{Accepted}
+use Rattle.route.specs.Inner.{Opened}
 use Rattle.job.proofs.Above.{board-given, given-sound}
+use Rattle.route.proofs.Limits.{line-room}
+use Rattle.route.proofs.Answering.{opened}
+use Rattle.route.proofs.Refusing.{board-fits, board-refused}
 use Rattle.route.proofs.serve.Statement.{statement}
 use Rattle.route.proofs.serve.Tie as tie
 
@@ -23,51 +26,57 @@ read-board-requires c κs = search needs
 enum-known-width : tie.Need-enum-known-width
 enum-known-width c = search needs
 
--- the board that was read
+-- the job, and the board slice after it was read
+abbrev jobOf : tie.After-read-board → List ℕ
+jobOf c = now (c .before .before .before .args .job)
+
 abbrev room : tie.After-width → List ℕ
 room c = c .before .before .before .read-board .last .1 .0
 
--- it is sound, and its job is accepted
-given : (c : tie.After-width) → let s = c .width .given .0 in
-    Sound (board (take (s .0 * s .1 .0) (room c)) (s .0) (s .1 .0)) × Accepted (now (c .before .before .before .before .before .before .args .job))
-given c =
-    let b = board-given (rw (c .width .given .1) at (c .before .before .before .read-board .ensures)) in
-    (given-sound b, b .accepted)
+-- the board at the front of the slice is sound, and the job's
+sound : (c : tie.After-width) → let s = c .width .given .0 in Sound (board (take (s .0 * s .1 .0) (room c)) (s .0) (s .1 .0))
+sound c = given-sound (board-given (rw (c .width .given .1) at (c .before .before .before .read-board .ensures)))
+
+ready : (c : tie.After-width) → let s = c .width .given .0 in
+    Opened (jobOf (c .before .before .before)) (take (s .0 * s .1 .0) (room c)) (s .0) (s .1 .0) (s .1 .1 .0)
+ready c = opened (board-given (rw (c .width .given .1) at (c .before .before .before .read-board .ensures)))
 
 mul-board : tie.Need-mul-board
-mul-board c = let s = given (c .before) .0 in omega (arith, mul-le-mul (s .narrow) (s .low))
+mul-board c = let s = sound (c .before) in omega (arith, mul-le-mul (s .narrow) (s .low))
 
 array-share-prefix-board : tie.Need-array-share-prefix-board
 array-share-prefix-board c =
     let w = c .before .width .given in
-    omega (arith, given (c .before) .0 .full, length-take (w .0 .0 * w .0 .1 .0) (room (c .before)))
+    omega (arith, sound (c .before) .full, length-take (w .0 .0 * w .0 .1 .0) (room (c .before)))
 
 slice-aggregate-cells : tie.Need-slice-aggregate-cells
-slice-aggregate-cells c = sym (given (c .before .before) .0 .full)
+slice-aggregate-cells c = sym (sound (c .before .before) .full)
 
-write-nets-requires : tie.Need-write-nets-requires
-write-nets-requires c κs = (given (c .before .before) .0 .narrow, given (c .before .before) .1)
+slice-aggregate-print-nets : tie.Need-slice-aggregate-print-nets
+slice-aggregate-print-nets c = search needs
+
+print-nets-requires : tie.Need-print-nets-requires
+print-nets-requires c κs = (ready (c .before .before .before), omega (arith, line-room))
 
 enum-known-why : tie.Need-enum-known-why
 enum-known-why c = search needs
 
-number-requires : tie.Need-number-requires
-number-requires c κs = search needs
+slice-aggregate-print-refusal : tie.Need-slice-aggregate-print-refusal
+slice-aggregate-print-refusal c = search needs
 
-place-requires : tie.Need-place-requires
-place-requires c κs = search needs
-
-second-requires : tie.Need-second-requires
-second-requires c κs = search needs
-
-write-refusal-requires : tie.Need-write-refusal-requires
-write-refusal-requires c κs = search needs
+print-refusal-requires : tie.Need-print-refusal-requires
+print-refusal-requires c κs =
+    let y = c .before .before in
+    let r = y .before .before .before in
+    (board-refused (jobOf r) (y .why .given .0 .0) (rw (y .why .given .1) at (r .read-board .ensures)), omega (arith, line-room))
 
 enum-told : tie.Need-enum-told
 enum-told c = search needs
 
-write-refusal-requires-2 : tie.Need-write-refusal-requires-2
-write-refusal-requires-2 c κs = search needs
+never-requires : tie.Need-never-requires
+never-requires c κs =
+    let r = c .before .before .before in
+    board-fits (jobOf r) (omega arith) (rw (c .enum-told .given .1) at (r .read-board .ensures))
 
 returns : tie.Need-returns
 returns c = search needs
@@ -88,14 +97,13 @@ serve-spec =
     mul-board
     array-share-prefix-board
     slice-aggregate-cells
-    write-nets-requires
+    slice-aggregate-print-nets
+    print-nets-requires
     enum-known-why
-    number-requires
-    place-requires
-    second-requires
-    write-refusal-requires
+    slice-aggregate-print-refusal
+    print-refusal-requires
     enum-told
-    write-refusal-requires-2
+    never-requires
     returns
     returns-2
     returns-3)

@@ -1,3 +1,0 @@
-pub mod Routed
-mod Wrote
-pub mod Determined

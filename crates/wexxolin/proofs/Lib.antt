@@ -1,0 +1,4 @@
+pub mod Routed
+mod Wrote
+mod Printed
+pub mod Determined

@@ -1,0 +1,23 @@
+-- `wexxolin_line_1` is the line call for C.
+use borrow.Author.Needs.{needs}
+use denote.Ref.{now}
+use Rattle.printing.proofs.Printing.{asked-bytes}
+use Rattle.wexxolin.proofs.Printed.{line-for-c}
+use Rattle.wexxolin.proofs.wexxolin_line_1.Statement.{statement}
+use Rattle.wexxolin.proofs.wexxolin_line_1.Tie as tie
+
+-- where the line has been written
+abbrev written : tie.After-tell-line → tie.After-write-line
+written c = c .before .before .before
+
+returns : tie.Need-returns
+returns c =
+    let w = written c in
+    let l = w .before .before in
+    let a = l .before .before .before .args in
+    let asked = asked-bytes (a .net) (a .number) (a .place) (a .second) (a .units) (a .expansions) (a .tests) in
+    line-for-c (asked (l .line-for .ensures) (a .width) (now (a .path))) (w .write-line .ensures) (c .tell-line .ensures)
+
+pub wexxolin-line-1-spec : {M : Type 1} → statement M
+wexxolin-line-1-spec =
+    tie.close (tie.spec (λ c κs. search needs) (λ c κs. search needs) (λ c κs. search needs) (λ c. search needs) returns)

@@ -1,0 +1,15 @@
+-- The version of the library as one number.
+use Prim.Native.Nat.{ℕ, _+_, _*_}
+
+abbrev pub major : ℕ
+major = 1
+
+abbrev pub minor : ℕ
+minor = 0
+
+abbrev pub patch : ℕ
+patch = 0
+
+-- 10000 is version 1.0.0
+abbrev pub version : ℕ
+version = major * 10000 + minor * 100 + patch

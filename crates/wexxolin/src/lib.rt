@@ -1,0 +1,205 @@
+// The calls for C, as include/wexxolin.h declares them.
+ghost use mathlib.Core.Path.{_≡_};
+ghost use Rattle.board.specs.Board.{board};
+ghost use Rattle.length.specs.Answers.{lengthRow, lengthBetweenRow, directionRow, directionBetweenRow};
+ghost use Rattle.sight.specs.Answers.{sightRow};
+ghost use Rattle.router.specs.Answers.{slices};
+ghost use Rattle.job.specs.Answers.{netRow};
+ghost use Rattle.packed.specs.Answers.{countRow};
+ghost use Rattle.packing.specs.Packing.{toldCount};
+ghost use Rattle.printing.specs.Printing.{printed};
+ghost use Rattle.told.specs.Told.{toldSight, toldLength, toldDirection, toldNet};
+ghost use Rattle.wexxolin.specs.Calls.{RoutedForC, ReadForC, UnpackedForC, PackedForC, LineForC};
+ghost use Rattle.wexxolin.specs.Version.{version};
+use board::Vertex;
+use job::read_board;
+use job::read_net;
+use length::Direction;
+use length::Length;
+use lines::write_line;
+use packed::count_blocked;
+use packed::read_cells;
+use packed::write_packed;
+use packing::Counted;
+use packing::Packing;
+use packing::inner::tell_count;
+use packing::inner::tell_read;
+use packing::inner::tell_written;
+use printing::Printed;
+use printing::inner::line_for;
+use printing::inner::tell_line;
+use router::route;
+use sight::sight;
+use told::Found;
+use told::Long;
+use told::Net;
+use told::Seen;
+use told::Sides;
+use told::Toward;
+use told::inner::tell_board;
+use told::inner::tell_direction;
+use told::inner::tell_length;
+use told::inner::tell_net;
+use told::inner::tell_route;
+use told::inner::tell_sight;
+
+// The version of the library, 10000 for 1.0.0.
+const VERSION: u64 = 10000;
+
+// Which version the library is.
+#[no_mangle]
+pub extern "C" fn wexxolin_version() -> u64
+    ensures { λ r. ⌜ r ≡ version ⌝ }
+{
+    VERSION
+}
+
+// What stops the leg from (ax, ay) to (bx, by) first.
+#[no_mangle]
+pub extern "C" fn wexxolin_sight_1(
+    cells: &[u8],
+    width: usize,
+    height: usize,
+    ax: usize,
+    ay: usize,
+    bx: usize,
+    by: usize,
+) -> Seen
+    ensures { λ r. ⌜ r ≡ toldSight (sightRow (board (now (cells .entry)) width height) ax ay bx by) ⌝ }
+{
+    tell_sight(sight(cells, width, height, ax, ay, bx, by))
+}
+
+// The length of a leg by its differences.
+#[no_mangle]
+pub extern "C" fn wexxolin_length_1(dx: i32, dy: i32) -> Long
+    ensures { λ r. ⌜ r ≡ toldLength (lengthRow dx dy) ⌝ }
+{
+    tell_length(Length::of(dx, dy))
+}
+
+// The length of a leg by its vertices.
+#[no_mangle]
+pub extern "C" fn wexxolin_length_between_1(ax: usize, ay: usize, bx: usize, by: usize) -> Long
+    ensures { λ r. ⌜ r ≡ toldLength (lengthBetweenRow ax ay bx by) ⌝ }
+{
+    tell_length(Length::between(ax, ay, bx, by))
+}
+
+// The direction of a leg by its differences.
+#[no_mangle]
+pub extern "C" fn wexxolin_direction_1(dx: i32, dy: i32) -> Toward
+    ensures { λ r. ⌜ r ≡ toldDirection (directionRow dx dy) ⌝ }
+{
+    tell_direction(Direction::of(dx, dy))
+}
+
+// The direction of a leg by its vertices.
+#[no_mangle]
+pub extern "C" fn wexxolin_direction_between_1(ax: usize, ay: usize, bx: usize, by: usize) -> Toward
+    ensures { λ r. ⌜ r ≡ toldDirection (directionBetweenRow ax ay bx by) ⌝ }
+{
+    tell_direction(Direction::between(ax, ay, bx, by))
+}
+
+// The route from (sx, sy) to (gx, gy).
+#[no_mangle]
+pub extern "C" fn wexxolin_route_1(
+    cells: &[u8],
+    width: usize,
+    height: usize,
+    sx: usize,
+    sy: usize,
+    gx: usize,
+    gy: usize,
+    g: &mut [u64],
+    parents: &mut [Vertex],
+    marks: &mut [u8],
+    path: &mut [Vertex],
+) -> Found
+    ensures { λ r. ⌜ RoutedForC (board (now (cells .entry)) width height) sx sy gx gy (slices (now (g .entry)) (now (parents .entry)) (now (marks .entry)) (now (path .entry))) (slices (now (g .exit)) (now (parents .exit)) (now (marks .exit)) (now (path .exit))) r ⌝ }
+{
+    tell_route(route(
+        cells,
+        width,
+        height,
+        sx,
+        sy,
+        gx,
+        gy,
+        g,
+        parents,
+        marks,
+        path,
+    ))
+}
+
+// A job's board.
+#[no_mangle]
+pub extern "C" fn wexxolin_board_1(job: &[u8], board: &mut [u8]) -> Sides
+    ensures { λ r. ⌜ ReadForC (now (job .entry)) (now (board .entry)) r (now (board .exit)) ⌝ }
+{
+    tell_board(read_board(job, board))
+}
+
+// A job's net by its index from 0.
+#[no_mangle]
+pub extern "C" fn wexxolin_net_1(job: &[u8], index: usize) -> Net
+    ensures { λ r. ⌜ r ≡ toldNet (netRow (now (job .entry)) index) ⌝ }
+{
+    tell_net(read_net(job, index))
+}
+
+// Packed bytes into cells.
+#[no_mangle]
+pub extern "C" fn wexxolin_unpack_1(
+    packed: &[u8],
+    width: usize,
+    height: usize,
+    cells: &mut [u8],
+) -> Packing
+    ensures { λ r. ⌜ UnpackedForC (now (packed .entry)) width height (now (cells .entry)) r (now (cells .exit)) ⌝ }
+{
+    tell_read(read_cells(packed, width, height, cells))
+}
+
+// Cells into packed bytes.
+#[no_mangle]
+pub extern "C" fn wexxolin_pack_1(
+    cells: &[u8],
+    width: usize,
+    height: usize,
+    packed: &mut [u8],
+) -> Packing
+    ensures { λ r. ⌜ PackedForC (board (now (cells .entry)) width height) (now (packed .entry)) r (now (packed .exit)) ⌝ }
+{
+    tell_written(write_packed(cells, width, height, packed))
+}
+
+// How many cells of packed bytes are blocked.
+#[no_mangle]
+pub extern "C" fn wexxolin_count_packed_1(packed: &[u8], width: usize, height: usize) -> Counted
+    ensures { λ r. ⌜ r ≡ toldCount (countRow (now (packed .entry)) width height) ⌝ }
+{
+    tell_count(count_blocked(packed, width, height))
+}
+
+// The line of a net or of a refusal, by what a route or a job's read handed back.
+#[no_mangle]
+pub extern "C" fn wexxolin_line_1(
+    net: u64,
+    number: u64,
+    place: u64,
+    second: u64,
+    units: u64,
+    expansions: u64,
+    tests: u64,
+    width: usize,
+    path: &[Vertex],
+    out: &mut [u8],
+) -> Printed
+    ensures { λ r. ⌜ LineForC (printed net number place second units expansions tests width (now (path .entry))) (now (out .entry)) r (now (out .exit)) ⌝ }
+{
+    let line = line_for(net, number, place, second, units, expansions, tests);
+    tell_line(write_line(line, width, path, out))
+}
