@@ -15,7 +15,7 @@ use board::inner::line_before;
 use board::inner::number_of;
 use open::list::open_vertex;
 use table::inner::units_between;
-use walks::inner::is_pinched;
+use walls::pinch::is_pinched;
 use walks::inner::sees;
 use walks::inner::sees_neighbour;
 

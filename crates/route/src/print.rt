@@ -18,7 +18,7 @@ use job::NetAnswer;
 use job::inner::net_at;
 use lines::Line;
 use lines::inner::refusal_line;
-use lines::write_line;
+use writing::write_line;
 use refusals::JobRefusal;
 use router::Answer;
 use router::route;

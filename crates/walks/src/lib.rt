@@ -1,7 +1,2 @@
-// The walks along a leg: over the cells that a slanted leg crosses, over the unit edges of one along a row or a column.
-mod edges;
+// Sight along a leg, and what stops it first: by the walk over its unit edges, or by that over the cells that it crosses.
 pub mod inner;
-mod leg;
-mod pinch;
-mod walk;
-mod walls;

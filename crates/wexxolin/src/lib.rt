@@ -16,7 +16,7 @@ use job::read_board;
 use job::read_net;
 use length::Direction;
 use length::Length;
-use lines::write_line;
+use writing::write_line;
 use packed::count_blocked;
 use packed::read_cells;
 use packed::write_packed;

@@ -9,13 +9,13 @@ use Rattle.legs.specs.declared.Stop.{Stop}
 use Rattle.legs.specs.Sight.{sees}
 use Rattle.legs.specs.Leg.{far}
 use Rattle.legs.specs.Stops.{isClear, cellsStop, edgesStop, firstStop}
-use Rattle.walks.specs.Walk.{stopAt}
-use Rattle.walks.specs.Edges.{stopAfter}
+use Rattle.slants.specs.Walk.{stopAt}
+use Rattle.edges.specs.Edges.{stopAfter}
 use Rattle.legs.specs.Inner.{EndsOn}
 use Rattle.legs.proofs.First.{level-stop, upright-stop, slanted-stop}
 use Rattle.legs.proofs.Nearest.{sees-clear}
-use Rattle.walks.proofs.edges.Counting.{steps-clear}
-use Rattle.walks.proofs.walk.Places.{number-clear}
+use Rattle.edges.proofs.inner.Counting.{steps-clear}
+use Rattle.slants.proofs.inner.Places.{number-clear}
 
 module _ (b : Board) (ax ay bx by : ℕ) where
   -- the stop by the number that the walk over the cells yields

@@ -1,0 +1,2 @@
+// Whether a line has room in so many bytes.
+pub mod inner;
