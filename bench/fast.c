@@ -266,7 +266,7 @@ uint64_t fast_units(int dx, int dy) { return units_of(dx * dx + dy * dy); }
 /* ---------- the open list ---------- */
 
 /* A key has f in its highest bits, then how near the goal is, then the place: equal f, then least g, which is the greatest
-   distance from the goal, then least vertex number. An f is below 1482911 * PLACES. */
+   distance from the goal. Where both are equal, legs are looked at, and then the vertex number. An f is below 1482911 * PLACES. */
 #if LARGEST_SIDE <= 127
 typedef uint64_t key;
 #else
@@ -287,6 +287,7 @@ struct search {
     key keys[PLACES + 2];          /* the heap, from 1 on; keys[0] is 0, before all */
     short_place where[PLACES];     /* in the heap; this and the others are right for seen vertices only */
     short_place parent[PLACES];
+    short_place legs[PLACES];
     uint64_t g[PLACES];
 };
 
@@ -297,6 +298,15 @@ INLINE key key_of(uint64_t f, int square, unsigned place)
 
 INLINE unsigned place_of(key key) { return (unsigned)key & (PLACES - 1); }
 
+/* Is a taken before b: by the words themselves, and where only the places differ by the legs and then the places. */
+INLINE int before(const struct search *s, key a, key b)
+{
+    if ((a ^ b) >> PLACE_BITS)
+        return a < b;
+    unsigned p = place_of(a), q = place_of(b);
+    return s->legs[p] != s->legs[q] ? s->legs[p] < s->legs[q] : p < q;
+}
+
 INLINE void put(struct search *s, size_t i, key key)
 {
     s->keys[i] = key;
@@ -305,7 +315,7 @@ INLINE void put(struct search *s, size_t i, key key)
 
 INLINE void rise(struct search *s, size_t i, key key)
 {
-    while (key < s->keys[i / 2]) {
+    while (before(s, key, s->keys[i / 2])) {
         put(s, i, s->keys[i / 2]);
         i /= 2;
     }
@@ -320,7 +330,7 @@ static inline void take_first(struct search *s)
     s->keys[count + 1] = (key)-1;
     s->count = count;
     while (down <= count) {
-        down += s->keys[down + 1] < s->keys[down];
+        down += before(s, s->keys[down + 1], s->keys[down]);
         put(s, i, s->keys[down]);
         i = down;
         down = 2 * i;
@@ -344,10 +354,11 @@ INLINE unsigned visible(const uint8_t *at)
     return visible_by[(four | four >> 7) & 15];
 }
 
-/* The vertex that is being expanded: its place and its parent's, their g, and how far the parent and the goal are from it. */
+/* The vertex that is being expanded: its place and its parent's, their g and legs, and how far the parent and the goal are from it. */
 struct turn {
     size_t place, parent, goal;
     uint64_t own_g, parent_g;
+    unsigned own_legs, parent_legs;
     int px, py, hx, hy;
     unsigned visible;
     uint64_t expansions, tests;
@@ -364,27 +375,33 @@ INLINE void look(struct search *s, struct turn *t, unsigned bit, int dx, int dy)
         return;
     int px = t->px - dx, py = t->py - dy;
     uint64_t new_g, step = dx && dy ? DIAGONAL_UNITS : AXIS_UNITS;
+    unsigned legs = t->parent_legs + 1;
     t->tests++;
 #if FAST_SKIP_DECIDED
-    if (*byte & SEEN && s->g[n] <= t->parent_g + units_of(px * px + py * py) && s->g[n] <= t->own_g + step)
+    if (*byte & SEEN && s->g[n] < t->parent_g + units_of(px * px + py * py) && s->g[n] < t->own_g + step)
         return;
 #endif
     if (walk(byte, s->field.bytes + from, px, py))
         new_g = t->parent_g + units_of(px * px + py * py);
     else
-        new_g = t->own_g + step, from = t->place;
+        new_g = t->own_g + step, legs = t->own_legs + 1, from = t->place;
+    size_t i;
+    key k;
     if (!(*byte & SEEN)) {
         int hx = t->hx - dx, hy = t->hy - dy, square = hx * hx + hy * hy;
         *byte |= SEEN;
-        rise(s, ++s->count, key_of(new_g + units_of(square), square, (unsigned)n));
-    } else if (new_g < s->g[n]) {
-        size_t i = s->where[n];
-        rise(s, i, s->keys[i] - ((key)(s->g[n] - new_g) << F_AT));
+        i = ++s->count;
+        k = key_of(new_g + units_of(square), square, (unsigned)n);
+    } else if (new_g < s->g[n] || (new_g == s->g[n] && legs < s->legs[n])) {
+        i = s->where[n];
+        k = s->keys[i] - ((key)(s->g[n] - new_g) << F_AT);
     } else {
         return;
     }
     s->g[n] = new_g;
     s->parent[n] = (short_place)from;
+    s->legs[n] = (short_place)legs;
+    rise(s, i, k);
 }
 
 INLINE void look_around(struct search *s, struct turn *t)
@@ -405,14 +422,16 @@ struct slices {
     uint64_t *g;
     wexxolin_vertex *parents;
     uint8_t *marks;
+    wexxolin_vertex *legs;
 };
 
-INLINE void write(const struct slices *to, size_t x, size_t y, size_t px, size_t py, uint64_t g, uint8_t mark)
+INLINE void write(const struct slices *to, size_t x, size_t y, size_t px, size_t py, uint64_t g, uint8_t mark, unsigned legs)
 {
     size_t v = y * to->stride + x;
     to->g[v] = g;
     to->parents[v] = (wexxolin_vertex)(py * to->stride + px);
     to->marks[v] = mark;
+    to->legs[v] = (wexxolin_vertex)legs;
 }
 
 /* Returns whether there is a path; counts[0] expansions, counts[1] tests. */
@@ -426,6 +445,7 @@ static int run(struct search *s, size_t start, size_t goal, const struct slices 
     put(s, 1, key_of(units_of(square), square, (unsigned)start));
     s->parent[start] = (short_place)start;
     s->g[start] = 0;
+    s->legs[start] = 0;
     while (s->count > 0) {
         t.place = place_of(s->keys[1]);
         if (t.place == goal) {
@@ -438,15 +458,16 @@ static int run(struct search *s, size_t start, size_t goal, const struct slices 
         t.px = (int)px - (int)x, t.py = (int)py - (int)y;
         t.hx = (int)gx - (int)x, t.hy = (int)gy - (int)y;
         t.own_g = s->g[t.place], t.parent_g = s->g[t.parent];
+        t.own_legs = s->legs[t.place], t.parent_legs = s->legs[t.parent];
         t.visible = visible(s->field.bytes + t.place);
         s->field.bytes[t.place] |= EXPANDED;
-        write(to, x, y, px, py, t.own_g, 2);
+        write(to, x, y, px, py, t.own_g, 2, t.own_legs);
         t.expansions++;
         look_around(s, &t);
     }
     for (size_t i = 1; i <= s->count; i++) {
         size_t p = place_of(s->keys[i]), q = s->parent[p];
-        write(to, p % LINE, p / LINE, q % LINE, q / LINE, s->g[p], 1);
+        write(to, p % LINE, p / LINE, q % LINE, q / LINE, s->g[p], 1, s->legs[p]);
     }
     counts[0] = t.expansions;
     counts[1] = t.tests;
@@ -456,9 +477,10 @@ static int run(struct search *s, size_t start, size_t goal, const struct slices 
 struct wexxolin_route fast_route(const uint8_t *cells, size_t cells_len, size_t width, size_t height,
                                  size_t sx, size_t sy, size_t gx, size_t gy,
                                  uint64_t *g, size_t g_len, wexxolin_vertex *parents, size_t parents_len,
-                                 uint8_t *marks, size_t marks_len, wexxolin_vertex *path, size_t path_len)
+                                 uint8_t *marks, size_t marks_len, wexxolin_vertex *legs, size_t legs_len,
+                                 wexxolin_vertex *path, size_t path_len)
 {
-    struct wexxolin_route answer = {0, 0, 0, 0.0, 0, 0, 0, 0};
+    struct wexxolin_route answer = {0, 0, 0, 0.0, 0, 0, 0, 0, 0};
 #if LARGEST_SIDE > 127
     static _Thread_local /* too large for a stack */
 #endif
@@ -467,15 +489,16 @@ struct wexxolin_route fast_route(const uint8_t *cells, size_t cells_len, size_t 
     if (answer.number)
         return answer;
     size_t stride = width + 1, count = stride * (height + 1), start = sy * stride + sx, goal = gy * stride + gx;
-    if (g_len < count || parents_len < count || marks_len < count) {
+    if (g_len < count || parents_len < count || marks_len < count || legs_len < count) {
         answer.number = 6;
         return answer;
     }
     memset(g, 0, count * sizeof *g);
     memset(parents, 0, count * sizeof *parents);
     memset(marks, 0, count);
+    memset(legs, 0, count * sizeof *legs);
 
-    struct slices to = {stride, g, parents, marks};
+    struct slices to = {stride, g, parents, marks, legs};
     uint64_t counts[2];
     if (!run(&s, sy * LINE + sx, gy * LINE + gx, &to, counts)) {
         answer.number = 8;
@@ -496,6 +519,7 @@ struct wexxolin_route fast_route(const uint8_t *cells, size_t cells_len, size_t 
     answer.units = g[goal];
     answer.cells = (double)g[goal] / AXIS_UNITS;
     answer.vertices = needed;
+    answer.legs = legs[goal];
     answer.expansions = counts[0];
     answer.tests = counts[1];
     return answer;

@@ -18,6 +18,7 @@ uint64_t fast_units(int dx, int dy);
 struct wexxolin_route fast_route(const uint8_t *cells, size_t cells_len, size_t width, size_t height,
                                  size_t sx, size_t sy, size_t gx, size_t gy,
                                  uint64_t *g, size_t g_len, wexxolin_vertex *parents, size_t parents_len,
-                                 uint8_t *marks, size_t marks_len, wexxolin_vertex *path, size_t path_len);
+                                 uint8_t *marks, size_t marks_len, wexxolin_vertex *legs, size_t legs_len,
+                                 wexxolin_vertex *path, size_t path_len);
 
 #endif

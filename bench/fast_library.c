@@ -14,10 +14,11 @@ struct wexxolin_sight wexxolin_sight(const uint8_t *cells, size_t cells_len, siz
 struct wexxolin_route wexxolin_route(const uint8_t *cells, size_t cells_len, size_t width, size_t height,
                                      size_t sx, size_t sy, size_t gx, size_t gy,
                                      uint64_t *g, size_t g_len, wexxolin_vertex *parents, size_t parents_len,
-                                     uint8_t *marks, size_t marks_len, wexxolin_vertex *path, size_t path_len)
+                                     uint8_t *marks, size_t marks_len, wexxolin_vertex *legs, size_t legs_len,
+                                     wexxolin_vertex *path, size_t path_len)
 {
-    return fast_route(cells, cells_len, width, height, sx, sy, gx, gy, g, g_len, parents, parents_len, marks, marks_len, path,
-                      path_len);
+    return fast_route(cells, cells_len, width, height, sx, sy, gx, gy, g, g_len, parents, parents_len, marks, marks_len, legs,
+                      legs_len, path, path_len);
 }
 
 static uint64_t far_difference(int64_t dx, int64_t dy)

@@ -46,6 +46,7 @@ changed crates/board/src/lib.rt "pub const SIDE: usize = 63;" "pub const SIDE: u
 changed crates/board/src/lib.rt "pub type Vertex = u16;" "pub type Vertex = $vertex;"
 changed crates/board/specs/Limits.antt "largestSide = 63" "largestSide = $side"
 changed crates/board/specs/Limits.antt "vertexBits = 16" "vertexBits = $bits"
+changed crates/lines/src/lib.rt "pub const LONGEST_LINE: usize = 31 + 4 * 20 + 6 * MOST;" "pub const LONGEST_LINE: usize = 31 + 4 * 20 + 8 * MOST;" # three digits
 changed include/wexxolin.h "typedef uint16_t wexxolin_vertex;" "typedef uint${bits}_t wexxolin_vertex;"
 
 cd "$copy"

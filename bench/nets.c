@@ -52,13 +52,14 @@ int main(int argc, char **argv)
     }
 
     static uint64_t g[MOST_VERTICES];
-    static wexxolin_vertex parents[MOST_VERTICES], path[MOST_VERTICES];
+    static wexxolin_vertex parents[MOST_VERTICES], legs[MOST_VERTICES], path[MOST_VERTICES];
     static uint8_t marks[MOST_VERTICES];
     unsigned long long paths = 0, expansions = 0, tests = 0, units = 0, vertices = 0;
     for (size_t k = 0; k < routed; k++) {
         struct wexxolin_route r =
             wexxolin_route(cells + k * width * height, width * height, width, height, ends[k].sx, ends[k].sy, ends[k].gx,
-                           ends[k].gy, g, MOST_VERTICES, parents, MOST_VERTICES, marks, MOST_VERTICES, path, MOST_VERTICES);
+                           ends[k].gy, g, MOST_VERTICES, parents, MOST_VERTICES, marks, MOST_VERTICES, legs, MOST_VERTICES,
+                           path, MOST_VERTICES);
         paths += r.number == 0;
         expansions += r.expansions;
         tests += r.tests;

@@ -5,11 +5,11 @@
 void route_net(struct search *search, const struct job *job, const struct board *board, size_t index)
 {
     static uint64_t g[WEXXOLIN_MOST_VERTICES];
-    static wexxolin_vertex parents[WEXXOLIN_MOST_VERTICES];
+    static wexxolin_vertex parents[WEXXOLIN_MOST_VERTICES], legs[WEXXOLIN_MOST_VERTICES];
     size_t width = board->is.width, height = board->is.height, most = WEXXOLIN_MOST_VERTICES;
     search->net = wexxolin_net(job->bytes, job->length, index);
     search->is = wexxolin_route(board->cells, width * height, width, height, search->net.sx, search->net.sy, search->net.gx,
-                                search->net.gy, g, most, parents, most, search->marks, most, search->path, most);
+                                search->net.gy, g, most, parents, most, search->marks, most, legs, most, search->path, most);
 }
 
 int run_route(int count, char **words)

@@ -33,12 +33,12 @@ int main(void)
 
     /* It works in memory that we lend it: an entry for each cell corner, and room for the trace. */
     static uint64_t g[VERTICES];
-    static wexxolin_vertex parents[VERTICES], path[VERTICES];
+    static wexxolin_vertex parents[VERTICES], legs[VERTICES], path[VERTICES];
     static uint8_t marks[VERTICES];
 
     size_t from_x = 1, from_y = 2, to_x = 15, to_y = 7;
     wexxolin_route_answer route = wexxolin_route(cells, sizeof cells, WIDTH, HEIGHT, from_x, from_y, to_x, to_y, g, VERTICES,
-                                                 parents, VERTICES, marks, VERTICES, path, VERTICES);
+                                                 parents, VERTICES, marks, VERTICES, legs, VERTICES, path, VERTICES);
 
     printf("from %zu,%zu to %zu,%zu\n", from_x, from_y, to_x, to_y);
     if (route.number == WEXXOLIN_NO_PATH) {
@@ -53,7 +53,7 @@ int main(void)
 
     /* A length in units is exact: 1,048,576 units to a cell, each leg rounded down by less than one unit. */
     printf("length %.6f cells (%llu units) in %llu legs\n", route.cells, (unsigned long long)route.units,
-           (unsigned long long)(route.vertices - 1));
+           (unsigned long long)route.legs);
 
     /* The trace's corners are numbered row by row, WIDTH + 1 to a row. Each leg between two of them is a straight piece of
        copper; its direction says how far it goes sideways and downward for each cell of its length. */

@@ -9,7 +9,7 @@
       3  a cell byte is not 0 or 1 (place: its index)    14  board side outside 1 to 63 (place: record)
       4  first vertex off the board, or dx beyond 63     15  keepout empty or beyond the board (place: record)
       5  second vertex off the board, or dy beyond 63    16  net end off the board (place: record)
-      6  g, parents or marks too short                   17  net number not above the one before (place: record)
+      6  g, parents, marks or legs too short             17  net number not above the one before (place: record)
       7  path too short (place: vertices needed)         18  keepout after a net (place: record)
       8  no path (a result: both counts are given)       19  board slice shorter than the cells
       9  direction of a leg with equal ends              20  no net with that index
@@ -36,11 +36,11 @@ extern "C" {
 #endif
 
 /* The version of this header, and the call that tells the library's; both are the same number where the two belong together. */
-#define WEXXOLIN_MAJOR 1
+#define WEXXOLIN_MAJOR 2
 #define WEXXOLIN_MINOR 0
 #define WEXXOLIN_PATCH 0
 #define WEXXOLIN_VERSION (WEXXOLIN_MAJOR * 10000 + WEXXOLIN_MINOR * 100 + WEXXOLIN_PATCH)
-#define WEXXOLIN_VERSION_TEXT "1.0.0"
+#define WEXXOLIN_VERSION_TEXT "2.0.0"
 uint64_t wexxolin_version(void);
 
 /* The library's name for each other call carries the call's edition, which rises when its parameters or its struct change: so an
@@ -95,7 +95,7 @@ static inline const char *wexxolin_text(uint64_t number)
     case WEXXOLIN_BAD_CELL: return "a cell byte is not 0 or 1";
     case WEXXOLIN_BAD_FIRST: return "the first vertex is off the board, or dx beyond 63";
     case WEXXOLIN_BAD_SECOND: return "the second vertex is off the board, or dy beyond 63";
-    case WEXXOLIN_SHORT_WORK: return "g, parents or marks too short";
+    case WEXXOLIN_SHORT_WORK: return "g, parents, marks or legs too short";
     case WEXXOLIN_SHORT_PATH: return "path too short";
     case WEXXOLIN_NO_PATH: return "no path";
     case WEXXOLIN_NO_DIRECTION: return "a leg with equal ends has no direction";
@@ -118,7 +118,7 @@ static inline const char *wexxolin_text(uint64_t number)
     }
 }
 
-/* A vertex number as the slices hold it: y * (width + 1) + x. */
+/* A vertex number as the slices hold it: y * (width + 1) + x. Legs are held in the same type. */
 typedef uint16_t wexxolin_vertex;
 
 /* Does the leg from (ax, ay) to (bx, by) have sight? sight is 1 or 0. Where it is 0, kind and what follows name the first thing
@@ -160,19 +160,21 @@ struct wexxolin_direction wexxolin_direction_between(size_t ax, size_t ay, size_
     WEXXOLIN_EDITION(wexxolin_direction_between_1);
 
 /* The route from (sx, sy) to (gx, gy); of its vertices only the first and the last may be pinched. vertices is the number of
-   entries written to path. Refusals 1 to 7; 8 is no path.
-   g, parents and marks need (width + 1) * (height + 1) entries; WEXXOLIN_MOST_VERTICES always suffice, for path too.
-   After 0, 7 and 8 they hold each vertex's length from the start, its parent and its mark: 0 unseen, 1 open, 2 expanded. */
+   entries written to path, and legs one fewer. Refusals 1 to 7; 8 is no path.
+   g, parents, marks and legs need (width + 1) * (height + 1) entries; WEXXOLIN_MOST_VERTICES always suffice, for path too.
+   After 0, 7 and 8 they hold each vertex's length from the start, its parent, its mark (0 unseen, 1 open, 2 expanded) and its legs
+   from the start. */
 struct wexxolin_route {
     uint64_t number, place, second;
     double cells;
-    uint64_t units, vertices, expansions, tests;
+    uint64_t units, vertices, legs, expansions, tests;
 };
 struct wexxolin_route wexxolin_route(const uint8_t *cells, size_t cells_len, size_t width, size_t height,
                                      size_t sx, size_t sy, size_t gx, size_t gy,
                                      uint64_t *g, size_t g_len, wexxolin_vertex *parents, size_t parents_len,
-                                     uint8_t *marks, size_t marks_len, wexxolin_vertex *path, size_t path_len)
-    WEXXOLIN_EDITION(wexxolin_route_1);
+                                     uint8_t *marks, size_t marks_len, wexxolin_vertex *legs, size_t legs_len,
+                                     wexxolin_vertex *path, size_t path_len)
+    WEXXOLIN_EDITION(wexxolin_route_2);
 
 /* A job's board, its cells written to board, which needs width * height bytes; WEXXOLIN_MOST_CELLS always suffice.
    Refusals 10 to 19 and 23. */
@@ -242,7 +244,7 @@ typedef struct wexxolin_line wexxolin_line_answer;
 typedef char wexxolin_sight_is_72_bytes[sizeof(wexxolin_sight_answer) == 72 ? 1 : -1];
 typedef char wexxolin_length_is_40_bytes[sizeof(wexxolin_length_answer) == 40 ? 1 : -1];
 typedef char wexxolin_direction_is_40_bytes[sizeof(wexxolin_direction_answer) == 40 ? 1 : -1];
-typedef char wexxolin_route_is_64_bytes[sizeof(wexxolin_route_answer) == 64 ? 1 : -1];
+typedef char wexxolin_route_is_72_bytes[sizeof(wexxolin_route_answer) == 72 ? 1 : -1];
 typedef char wexxolin_board_is_48_bytes[sizeof(wexxolin_board_answer) == 48 ? 1 : -1];
 typedef char wexxolin_net_is_64_bytes[sizeof(wexxolin_net_answer) == 64 ? 1 : -1];
 typedef char wexxolin_pack_is_24_bytes[sizeof(wexxolin_pack_answer) == 24 ? 1 : -1];

@@ -171,7 +171,7 @@ static void tell_double(const char *what, double theirs, double ours)
 
 /* ---------- lending ---------- */
 
-static struct room cells_room, g_room, parents_room, marks_room, path_room, job_room, board_room;
+static struct room cells_room, g_room, parents_room, marks_room, legs_room, path_room, job_room, board_room;
 
 /* The request that the library has in hand, and what tells it and its job. */
 static const void *request;
@@ -190,6 +190,7 @@ static void open_rooms(void)
     room_open(&g_room, "g", ROOM * sizeof(uint64_t), WRITABLE);
     room_open(&parents_room, "parents", ROOM * sizeof(wexxolin_vertex), WRITABLE);
     room_open(&marks_room, "marks", ROOM, WRITABLE);
+    room_open(&legs_room, "legs", ROOM * sizeof(wexxolin_vertex), WRITABLE);
     room_open(&path_room, "path", ROOM * sizeof(wexxolin_vertex), WRITABLE);
     room_open(&job_room, "job", JOB_ROOM, READ_ONLY);
     room_open(&board_room, "board", ROOM, WRITABLE);
@@ -358,12 +359,12 @@ static void compare_between(size_t ax, size_t ay, size_t bx, size_t by)
 struct route_case {
     const uint8_t *cells;
     size_t cells_len, width, height, sx, sy, gx, gy;
-    size_t g_len, parents_len, marks_len, path_len;
+    size_t g_len, parents_len, marks_len, legs_len, path_len;
 };
 
 struct lent {
     uint64_t g[ROOM];
-    wexxolin_vertex parents[ROOM], path[ROOM];
+    wexxolin_vertex parents[ROOM], legs[ROOM], path[ROOM];
     uint8_t marks[ROOM];
 };
 
@@ -374,7 +375,8 @@ static void tell_route_request(const void *of)
     const struct route_case *c = of;
     tell("route from (%zu,%zu) to (%zu,%zu)", c->sx, c->sy, c->gx, c->gy);
     tell_board(c->cells, c->cells_len, c->width, c->height);
-    tell("slices lent: g %zu, parents %zu, marks %zu, path %zu", c->g_len, c->parents_len, c->marks_len, c->path_len);
+    tell("slices lent: g %zu, parents %zu, marks %zu, legs %zu, path %zu", c->g_len, c->parents_len, c->marks_len, c->legs_len,
+         c->path_len);
     if (is_board(c->cells, c->cells_len, c->width, c->height))
         tell_job_of_board(c->cells, c->width, c->height, c->sx, c->sy, c->gx, c->gy);
 }
@@ -388,6 +390,7 @@ static void tell_route(struct wexxolin_route a, struct wexxolin_route b, const c
     tell_double("cells", a.cells, b.cells);
     tell_number("units", a.units, b.units);
     tell_number("vertices", a.vertices, b.vertices);
+    tell_number("legs", a.legs, b.legs);
     tell_number("expansions", a.expansions, b.expansions);
     tell_number("tests", a.tests, b.tests);
 }
@@ -448,6 +451,7 @@ static void fill_all(const struct route_case *c)
     fill_slice(before.g, ours.g, sizeof *before.g, c->g_len);
     fill_slice(before.parents, ours.parents, sizeof *before.parents, c->parents_len);
     fill_slice(before.marks, ours.marks, sizeof *before.marks, c->marks_len);
+    fill_slice(before.legs, ours.legs, sizeof *before.legs, c->legs_len);
     fill_slice(before.path, ours.path, sizeof *before.path, c->path_len);
 }
 
@@ -458,13 +462,15 @@ static struct wexxolin_route call_route(const struct route_case *c, enum flush f
     uint64_t *g = lend_entries(&g_room, before.g, sizeof *g, c->g_len, flush);
     wexxolin_vertex *parents = lend_entries(&parents_room, before.parents, sizeof *parents, c->parents_len, flush);
     uint8_t *marks = lend_entries(&marks_room, before.marks, sizeof *marks, c->marks_len, flush);
+    wexxolin_vertex *legs = lend_entries(&legs_room, before.legs, sizeof *legs, c->legs_len, flush);
     wexxolin_vertex *path = lend_entries(&path_room, before.path, sizeof *path, c->path_len, flush);
     struct wexxolin_route answer =
         wexxolin_route(cells, c->cells_len, c->width, c->height, c->sx, c->sy, c->gx, c->gy, g, c->g_len, parents,
-                       c->parents_len, marks, c->marks_len, path, c->path_len);
+                       c->parents_len, marks, c->marks_len, legs, c->legs_len, path, c->path_len);
     fetch_entries(&g_room, theirs.g, before.g, sizeof *g, c->g_len);
     fetch_entries(&parents_room, theirs.parents, before.parents, sizeof *parents, c->parents_len);
     fetch_entries(&marks_room, theirs.marks, before.marks, sizeof *marks, c->marks_len);
+    fetch_entries(&legs_room, theirs.legs, before.legs, sizeof *legs, c->legs_len);
     fetch_entries(&path_room, theirs.path, before.path, sizeof *path, c->path_len);
     return answer;
 }
@@ -472,7 +478,7 @@ static struct wexxolin_route call_route(const struct route_case *c, enum flush f
 static void check_route(const struct route_case *c, struct wexxolin_route b, enum flush flush)
 {
     struct wexxolin_route a = call_route(c, flush);
-    count(7);
+    count(8);
     if (!SAME_ANSWER(a, b)) {
         tell_route(a, b, "the answers differ");
         end_of_route(c);
@@ -482,6 +488,7 @@ static void check_route(const struct route_case *c, struct wexxolin_route b, enu
     compare_slice(c, "g", theirs.g, ours.g, before.g, sizeof *ours.g, c->g_len, work, a, b);
     compare_slice(c, "parents", theirs.parents, ours.parents, before.parents, sizeof *ours.parents, c->parents_len, work, a, b);
     compare_slice(c, "marks", theirs.marks, ours.marks, before.marks, sizeof *ours.marks, c->marks_len, work, a, b);
+    compare_slice(c, "legs", theirs.legs, ours.legs, before.legs, sizeof *ours.legs, c->legs_len, work, a, b);
     compare_slice(c, "path", theirs.path, ours.path, before.path, sizeof *ours.path, c->path_len, path, a, b);
 }
 
@@ -490,7 +497,7 @@ static struct wexxolin_route compare_route(const struct route_case *c)
     fill_all(c);
     struct wexxolin_route b = second_route(
         c->cells, c->cells_len, c->width, c->height, c->sx, c->sy, c->gx, c->gy, ours.g + PAD, c->g_len, ours.parents + PAD,
-        c->parents_len, ours.marks + PAD, c->marks_len, ours.path + PAD, c->path_len);
+        c->parents_len, ours.marks + PAD, c->marks_len, ours.legs + PAD, c->legs_len, ours.path + PAD, c->path_len);
     check_route(c, b, AT_END);
     check_route(c, b, AT_FRONT);
     return b;
@@ -499,7 +506,8 @@ static struct wexxolin_route compare_route(const struct route_case *c)
 static struct route_case route_on(const uint8_t *cells, size_t width, size_t height)
 {
     size_t vertices = (width + 1) * (height + 1);
-    return (struct route_case){cells, width * height, width, height, 0, 0, 0, 0, vertices, vertices, vertices, vertices};
+    return (struct route_case){cells,    width * height, width,    height,   0, 0, 0, 0,
+                               vertices, vertices,       vertices, vertices, vertices};
 }
 
 /* Slices as long as needed, or somewhat longer. */
@@ -508,6 +516,7 @@ static void lengthen(struct route_case *c)
     c->g_len += chance(30) ? below(SPARE) : 0;
     c->parents_len += chance(30) ? below(SPARE) : 0;
     c->marks_len += chance(30) ? below(SPARE) : 0;
+    c->legs_len += chance(30) ? below(SPARE) : 0;
     c->path_len += chance(30) ? below(SPARE) : 0;
 }
 
@@ -615,14 +624,25 @@ static const char *wrong_marks(const struct route_case *c, struct wexxolin_route
             wrong = "a mark above 2, or a vertex out of reach seen";
         if (r.number == 8 && reached[v] && marks[v] != 2)
             wrong = "no path, and a vertex within reach not expanded";
-        if (marks[v] == 0 && (theirs.g[PAD + v] || theirs.parents[PAD + v]))
-            wrong = "an unseen vertex with a g or parent";
+        if (marks[v] == 0 && (theirs.g[PAD + v] || theirs.parents[PAD + v] || theirs.legs[PAD + v]))
+            wrong = "an unseen vertex with a g, parent or legs";
     }
     if (expanded != r.expansions)
         wrong = "expansions are not the expanded marks";
     if (pairs_with_expanded(c, marks) != r.tests)
         wrong = "tests are not the pairs of visible neighbours with an expanded one";
     return wrong;
+}
+
+/* "each vertex's legs from the start: 0 there and where unseen, else one more than its parent's" Returns what is wrong, or NULL. */
+static const char *wrong_legs(const struct route_case *c)
+{
+    size_t start = c->sy * (c->width + 1) + c->sx;
+    const wexxolin_vertex *legs = theirs.legs + PAD;
+    for (size_t v = 0; v < (c->width + 1) * (c->height + 1); v++)
+        if (theirs.marks[PAD + v] != 0 && legs[v] != (v == start ? 0 : legs[theirs.parents[PAD + v]] + 1))
+            return "a vertex whose legs are not one more than its parent's";
+    return NULL;
 }
 
 /* A path starts and ends where asked, only there it may be pinched, every leg has sight, the lengths of the legs add up. Returns
@@ -645,6 +665,8 @@ static const char *wrong_path(const struct route_case *c, struct wexxolin_route 
     }
     if (units != r.units || r.cells != (double)units / 1048576.0)
         wrong = "the legs' lengths do not add up";
+    if (r.number == 0 && r.legs + 1 != r.vertices)
+        wrong = "the legs are not the vertices less one";
     return wrong;
 }
 
@@ -655,7 +677,9 @@ static void check_promises_of_route(const struct route_case *c, struct wexxolin_
     if (r.number != 0 && r.number != 8)
         return;
     flood(c, reached);
-    const char *marks = wrong_marks(c, r, reached), *wrong = wrong_path(c, r);
+    const char *marks = wrong_marks(c, r, reached), *legs = wrong_legs(c), *wrong = wrong_path(c, r);
+    if (legs)
+        wrong = legs;
     if (marks)
         wrong = marks;
     if ((r.number == 0) != (reached[c->gy * (c->width + 1) + c->gx] == 1))
@@ -795,7 +819,7 @@ static void library_lines(const struct job *job, struct second_text *text)
         struct wexxolin_net n = wexxolin_net(job->bytes, job->length, index);
         struct wexxolin_route r = wexxolin_route(
             cells, (size_t)(b.width * b.height), (size_t)b.width, (size_t)b.height, (size_t)n.sx, (size_t)n.sy, (size_t)n.gx,
-            (size_t)n.gy, theirs.g, ROOM, theirs.parents, ROOM, theirs.marks, ROOM, theirs.path, ROOM);
+            (size_t)n.gy, theirs.g, ROOM, theirs.parents, ROOM, theirs.marks, ROOM, theirs.legs, ROOM, theirs.path, ROOM);
         if (r.number == 8)
             second_print(text, "net %u none expanded %u tests %u\n", (unsigned)n.net, (unsigned)r.expansions,
                          (unsigned)r.tests);
@@ -1230,6 +1254,8 @@ static void make_serpentine(size_t width, size_t height) { board_serpentine(&dic
 static void make_chequered(size_t width, size_t height) { board_chequered(&dice, cells, width, height, below(25)); }
 static void make_pairs(size_t width, size_t height) { board_pairs(&dice, cells, width, height, 1 + below(width * height / 3 + 1)); }
 static void make_staircases(size_t width, size_t height) { board_staircases(&dice, cells, width, height); }
+static void make_lattice(size_t width, size_t height) { board_lattice(&dice, cells, width, height, below(15)); }
+static void make_mirrored(size_t width, size_t height) { board_mirrored(&dice, cells, width, height, below(40)); }
 static void make_divided(size_t width, size_t height) { board_divided(&dice, cells, width, height); }
 static void make_keepouts(size_t width, size_t height) { board_keepouts(&dice, cells, width, height, below(16)); }
 static void make_sparse(size_t width, size_t height) { board_scattered(&dice, cells, width, height, below(12)); }
@@ -1297,6 +1323,71 @@ static void group_pinched_routes(void)
     end_group();
 }
 
+/* Boards on which two open vertices have the same f and g, and not the same number of legs, when that decides. */
+struct tied_board {
+    size_t width, height;
+    const char *cells;
+    size_t sx, sy, gx, gy;
+};
+static const struct tied_board tied_boards[] = {
+    {9, 6,
+     ".....##.."
+     "....#...."
+     "..####.#."
+     ".....#..."
+     "........."
+     "..#.#....",
+     5, 1, 3, 5},
+    {7, 5,
+     "...#..."
+     ".....#."
+     "..#.#.."
+     "..#...."
+     "#.#.#..",
+     7, 2, 2, 5},
+};
+
+/* One of the eight ways to turn and mirror a place in a field of width by height. */
+static void turn(size_t way, size_t width, size_t height, size_t *x, size_t *y)
+{
+    if (way & 1)
+        *x = width - 1 - *x;
+    if (way & 2)
+        *y = height - 1 - *y;
+    if (way & 4) {
+        size_t swap = *x;
+        *x = *y, *y = swap;
+    }
+}
+
+static void tied_route(const struct tied_board *b, size_t way, size_t changed)
+{
+    size_t width = way & 4 ? b->height : b->width, height = way & 4 ? b->width : b->height;
+    for (size_t i = 0; i < b->width * b->height; i++) {
+        size_t x = i % b->width, y = i / b->width;
+        turn(way, b->width, b->height, &x, &y);
+        cells[y * width + x] = b->cells[i] == '#';
+    }
+    for (; changed > 0; changed--)
+        cells[below(width * height)] ^= 1;
+    struct route_case c = route_on(cells, width, height);
+    c.sx = b->sx, c.sy = b->sy, c.gx = b->gx, c.gy = b->gy;
+    turn(way, b->width + 1, b->height + 1, &c.sx, &c.sy);
+    turn(way, b->width + 1, b->height + 1, &c.gx, &c.gy);
+    check_promises_of_route(&c, compare_route(&c));
+}
+
+/* As they are, and with one or two cells changed. */
+static void group_tied_routes(void)
+{
+    begin_group("route, ties that legs decide");
+    for (size_t k = 0; k < sizeof tied_boards / sizeof *tied_boards; k++)
+        for (size_t way = 0; way < 8; way++)
+            for (size_t n = 0; n < 40 * scale; n++)
+                tied_route(&tied_boards[k], way, n % 3);
+    end_group();
+}
+
 static void group_random_routes(void)
 {
     random_routes("route, small boards, few blocked", 2500 * scale, make_sparse, 1, 10, 0);
@@ -1317,10 +1408,14 @@ static void group_random_routes(void)
     random_routes("route, diagonal pairs", 500 * scale, make_pairs, 2, 20, 1);
     random_routes("route, large boards, diagonal pairs", 8 * scale, make_pairs, 50, 63, 1);
     random_routes("route, staircases", 100 * scale, make_staircases, 3, 26, 1);
+    random_routes("route, many equal routes", 400 * scale, make_lattice, 3, 26, 1);
+    random_routes("route, large boards, equal routes", 6 * scale, make_lattice, 50, 63, 1);
+    random_routes("route, mirrored boards", 200 * scale, make_mirrored, 3, 24, 1);
     random_routes("route, boards cut in two", 150 * scale, make_divided, 2, 24, 1);
     group_thin_routes();
     group_enclosed_routes();
     group_pinched_routes();
+    group_tied_routes();
 }
 
 /* ---------- groups: refusals ---------- */
@@ -1352,7 +1447,7 @@ static void refused_sides(void)
                 size_t at = below(counts[k]);
                 if (k % 2)
                     cells[at] = any_byte();
-                struct route_case c = {cells, counts[k], sides[i], sides[j], 0, 0, 0, 0, 4096, 4096, 4096, 10};
+                struct route_case c = {cells, counts[k], sides[i], sides[j], 0, 0, 0, 0, 4096, 4096, 4096, 4096, 10};
                 compare_both(&c);
                 c.gx = SIZE_MAX, c.g_len = 0;
                 compare_both(&c);
@@ -1399,6 +1494,8 @@ static void refused_vertices(void)
                 continue;
             if (n % 3 == 0)
                 c.marks_len = 0;
+            if (n % 5 == 0)
+                c.legs_len = 0;
             compare_both(&c);
         }
     }
@@ -1411,12 +1508,15 @@ static void refused_slices(void)
         size_t width = sizes[k][0], height = sizes[k][1], vertices = (width + 1) * (height + 1);
         size_t lengths[] = {vertices, vertices - 1, 0, vertices + 1, width * height, 1};
         board_scattered(&dice, cells, width, height, 15);
-        for (size_t n = 0; n < 6 * 6 * 6; n++) {
+        for (size_t n = 0; n < 6 * 6 * 6 * 6; n++) {
+            if (width * height > 60 && n % 5)
+                continue;
             struct route_case c = route_on(cells, width, height);
             random_ends(&c);
             if (width * height > 1000)
                 c.gx = c.sx, c.gy = c.sy;
-            c.g_len = lengths[n % 6], c.parents_len = lengths[n / 6 % 6], c.marks_len = lengths[n / 36];
+            c.g_len = lengths[n % 6], c.parents_len = lengths[n / 6 % 6], c.marks_len = lengths[n / 36 % 6];
+            c.legs_len = lengths[n / 216];
             c.path_len = n % 4 ? below(vertices) : 0;
             compare_route(&c);
         }
@@ -1454,6 +1554,8 @@ static void refused_mixtures(void)
             c.parents_len = below(vertices + 3);
         if (chance(10))
             c.marks_len = below(vertices + 3);
+        if (chance(10))
+            c.legs_len = below(vertices + 3);
         if (chance(50))
             c.path_len = below(6);
         compare_both(&c);

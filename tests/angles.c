@@ -69,11 +69,11 @@ static uint64_t expected(const struct request *r, int led)
 static void compare(const struct request *r, int led)
 {
     static uint64_t g[MOST_VERTICES];
-    static wexxolin_vertex parents[MOST_VERTICES], path[MOST_VERTICES];
+    static wexxolin_vertex parents[MOST_VERTICES], legs[MOST_VERTICES], path[MOST_VERTICES];
     static uint8_t marks[MOST_VERTICES];
     size_t count = (r->width + 1) * (r->height + 1);
     uint64_t number = wexxolin_route(r->cells, r->width * r->height, r->width, r->height, r->sx, r->sy, r->gx, r->gy, g, count,
-                                     parents, count, marks, count, path, r->path_len).number;
+                                     parents, count, marks, count, legs, count, path, r->path_len).number;
     if (number != expected(r, led))
         end_of_telling(r, number, led);
     *(led ? &group_led : &group_none) += 1;

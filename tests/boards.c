@@ -127,6 +127,30 @@ void board_staircases(struct dice *dice, uint8_t *cells, size_t width, size_t he
         }
 }
 
+/* Blocks of the same size at the same distance, with some cells changed: many routes are equally long, with more and with fewer
+   legs. */
+void board_lattice(struct dice *dice, uint8_t *cells, size_t width, size_t height, size_t percent_changed)
+{
+    size_t period = 2 + dice_below(dice, 3), wide = 1 + dice_below(dice, period - 1), high = 1 + dice_below(dice, period - 1);
+    size_t left = dice_below(dice, period), top = dice_below(dice, period);
+    for (size_t y = 0; y < height; y++)
+        for (size_t x = 0; x < width; x++) {
+            int block = (x + left) % period < wide && (y + top) % period < high;
+            cells[y * width + x] = (uint8_t)(block != (dice_below(dice, 100) < percent_changed));
+        }
+}
+
+/* Scattered cells, the lower half the upper one mirrored, or the right one the left: every route has its mirror image. */
+void board_mirrored(struct dice *dice, uint8_t *cells, size_t width, size_t height, size_t percent)
+{
+    size_t standing = dice_below(dice, 2);
+    board_scattered(dice, cells, width, height, percent);
+    for (size_t y = 0; y < height; y++)
+        for (size_t x = 0; x < width; x++)
+            cells[y * width + x] = standing ? cells[y * width + (x < width - 1 - x ? x : width - 1 - x)]
+                                            : cells[(y < height - 1 - y ? y : height - 1 - y) * width + x];
+}
+
 /* A wall from side to side, so that the two parts cannot reach each other; some scattered cells besides. */
 void board_divided(struct dice *dice, uint8_t *cells, size_t width, size_t height)
 {

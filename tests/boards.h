@@ -22,6 +22,8 @@ void board_serpentine(struct dice *dice, uint8_t *cells, size_t width, size_t he
 void board_chequered(struct dice *dice, uint8_t *cells, size_t width, size_t height, size_t percent_changed);
 void board_pairs(struct dice *dice, uint8_t *cells, size_t width, size_t height, size_t count);
 void board_staircases(struct dice *dice, uint8_t *cells, size_t width, size_t height);
+void board_lattice(struct dice *dice, uint8_t *cells, size_t width, size_t height, size_t percent_changed);
+void board_mirrored(struct dice *dice, uint8_t *cells, size_t width, size_t height, size_t percent);
 void board_divided(struct dice *dice, uint8_t *cells, size_t width, size_t height);
 
 /* Blocks the four cells around a vertex. */

@@ -82,12 +82,12 @@ wanted="$*"
 
 # the order of the open list
 broken tie-larger-g fast.c 's/\(1u << NEAR_BITS\) - 1 - \(unsigned\)square/(unsigned)square/'
-broken tie-larger-vertex fast.c 's/<< PLACE_BITS \| place;/<< PLACE_BITS | (PLACES - 1 - place);/; s/return \(unsigned\)key & \(PLACES - 1\)/return ~(unsigned)key \& (PLACES - 1)/'
-broken tie-none fast.c 's/key < s->keys\[i \/ 2\]/key >> F_AT < s->keys[i \/ 2] >> F_AT/; s/s->keys\[down \+ 1\] < s->keys\[down\]/s->keys[down + 1] >> F_AT < s->keys[down] >> F_AT/'
+broken tie-larger-vertex fast.c 's/: p < q;/: p > q;/'
+broken tie-none fast.c 's/\(a \^ b\) >> PLACE_BITS\)\n        return a < b;/(a ^ b) >> F_AT)\n        return a < b;\n    return 0;/'
 broken tie-only-vertex fast.c 's/\(key\)\(\(1u << NEAR_BITS\) - 1 - \(unsigned\)square\) << PLACE_BITS \| //; s/int square, unsigned place\)\n\{/int square, unsigned place)\n{\n    (void)square;/'
-broken old-key-stays fast.c 's/rise\(s, i, s->keys\[i\] - .*?\);/(void)i;/'
+broken old-key-stays fast.c 's/i = s->where\[n\];\n/s->g[n] = new_g, s->parent[n] = (short_place)from, s->legs[n] = (short_place)legs;\n        return;\n/'
 broken key-of-old-g fast.c 's/s->keys\[i\] - \(\(key\)\(s->g\[n\] - new_g\) << F_AT\)/s->keys[i]/'
-broken heap-one-child fast.c 's/down \+= s->keys\[down \+ 1\] < s->keys\[down\];/down += down + 2 <= count \&\& s->keys[down + 1] < s->keys[down];/'
+broken heap-one-child fast.c 's/down \+= before\(s, s->keys\[down \+ 1\], s->keys\[down\]\);/down += down + 2 <= count \&\& before(s, s->keys[down + 1], s->keys[down]);/'
 
 # the search
 broken equal-g-replaces fast.c 's/new_g < s->g\[n\]/new_g <= s->g[n]/'
@@ -95,13 +95,34 @@ broken plain-a-star fast.c 's/if \(walk\(byte, .*?\)\)\n/if (0)\n/'
 broken h-zero fast.c 's/new_g \+ units_of\(square\), square/new_g, square/'
 broken h-one-more fast.c 's/new_g \+ units_of\(square\), square/new_g + units_of(square) + (n == LINE + 3), square/'
 broken reopens-expanded fast.c 's/(    if \(!\(t->visible & bit\) )\|\| \*byte & EXPANDED\)\n        return;/$1)\n        return;\n    if (*byte \& EXPANDED) { t->tests++; return; }/'
-broken goal-expanded fast.c 's/s->g\[p\], 1\);/s->g[p], p == goal ? 2 : 1);/'
+broken goal-expanded fast.c 's/s->g\[p\], 1, s/s->g[p], p == goal ? 2 : 1, s/'
 broken goal-counted fast.c 's/found = 1;\n/found = 1; t.expansions++;\n/'
-broken start-without-parent fast.c 's/(uint8_t mark\)\n\{)/$1\n    if (x == px \&\& y == py) px = py = 0;/'
+broken start-without-parent fast.c 's/(uint8_t mark, unsigned legs\)\n\{)/$1\n    if (x == px \&\& y == py) px = py = 0;/'
 broken start-tests-uncounted fast.c 's/t->tests\+\+;/t->tests += t->parent != t->place;/'
 broken neighbour-tests-counted fast.c 's/t->tests\+\+;/t->tests += 2;/'
 broken diagonal-squeeze fast.c 's/\(nw & ne\) \* N \| ne \* NE/(nw \& ne) * N | (ne | (nw \& se)) * NE/'
 broken neighbour-edge fast.c 's/\(sw & nw\) \* W/(sw | nw) * W/'
+
+# the legs
+broken tie-more-legs fast.c 's/s->legs\[p\] < s->legs\[q\]/s->legs[p] > s->legs[q]/'
+broken tie-without-legs fast.c 's/s->legs\[p\] != s->legs\[q\] \? s->legs\[p\] < s->legs\[q\] : p < q/p < q/'
+broken tie-legs-before-g fast.c 's/\(a \^ b\) >> PLACE_BITS/(a ^ b) >> F_AT/; s/: p < q;/: a < b;/'
+broken tie-by-old-legs fast.c 's/(    s->legs\[n\] = \(short_place\)legs;\n)(    rise\(s, i, k\);\n)/$2$1/'
+broken equal-g-keeps fast.c 's/ \|\| \(new_g == s->g\[n\] && legs < s->legs\[n\]\)//'
+broken equal-legs-replace fast.c 's/legs < s->legs\[n\]/legs <= s->legs[n]/'
+broken more-legs-replace fast.c 's/legs < s->legs\[n\]/legs > s->legs[n]/'
+broken legs-before-g-replace fast.c 's/new_g < s->g\[n\] \|\| \(new_g == s->g\[n\] && legs < s->legs\[n\]\)/legs < s->legs[n] || (legs == s->legs[n] \&\& new_g < s->g[n])/'
+broken legs-of-taken fast.c 's/legs = t->parent_legs \+ 1/legs = t->own_legs + 1/'
+broken legs-as-the-parent fast.c 's/legs = t->own_legs \+ 1/legs = t->own_legs/'
+broken legs-not-followed fast.c 's/(\*byte \|= SEEN;)/$1 s->legs[n] = (short_place)legs;/; s/\n    s->legs\[n\] = \(short_place\)legs;\n    rise/\n    rise/'
+broken legs-of-start fast.c 's/s->legs\[start\] = 0;/s->legs[start] = 1;/'
+broken legs-not-cleared fast.c 's/memset\(legs, 0, count \* sizeof \*legs\);//'
+broken legs-one-too-many fast.c 's/memset\(legs, 0, count /memset(legs, 0, (count + (legs_len > count)) /'
+broken legs-as-vertices fast.c 's/answer\.legs = legs\[goal\]/answer.legs = needed/'
+broken legs-unsaid fast.c 's/answer\.legs = legs\[goal\];//'
+broken seven-with-legs fast.c 's/answer\.place = needed;/answer.place = needed; answer.legs = needed - 1;/'
+broken six-without-legs fast.c 's/ \|\| legs_len < count//'
+broken legs-off-by-one fast.c 's/legs_len < count/legs_len <= count/'
 
 # the slices
 broken g-not-cleared fast.c 's/memset\(g, 0, count \* sizeof \*g\);/g[start] = 0;/'
@@ -178,7 +199,7 @@ broken three-above-2 fast.c 's/0xfefefefefefefefeu/0xfcfcfcfcfcfcfcfcu/'
 broken four-and-five fast.c 's/return 4;/return 9;/; s/return 5;/return 4;/; s/return 9;/return 5;/'
 broken four-without-y fast.c 's/ax > width \|\| ay > height/ax > width || ay > height + 1/'
 broken five-before-four fast.c 's/(    if \(ax > width.*?return 4;\n)(.*?return 5;\n)/$2$1/s'
-broken six-of-cells fast.c 's/marks_len < count\)/marks_len < cells_len)/'
+broken six-of-cells fast.c 's/legs_len < count\)/legs_len < cells_len)/'
 broken six-off-by-one fast.c 's/parents_len < count/parents_len <= count/'
 
 # jobs
@@ -220,6 +241,7 @@ broken cells-written-alike fast.c "s/$accepted/\$1    ((volatile uint8_t *)cells
 broken cells-read-before-two fast.c 's/(    if \(cells_len != width \* height\))/    (void)((const volatile uint8_t *)cells)[width * height - 1];\n$1/'
 broken g-read-behind fast.c "s/$lent/    (void)((volatile uint64_t *)g)[g_len];\n\$1/"
 broken parents-read-before fast.c "s/$lent/    (void)((volatile wexxolin_vertex *)parents)[-1];\n\$1/"
+broken legs-read-behind fast.c "s/$lent/    (void)((volatile wexxolin_vertex *)legs)[legs_len];\n\$1/"
 broken marks-written-alike-behind fast.c "s/$lent/    ((volatile uint8_t *)marks)[marks_len] = marks[marks_len];\n\$1/"
 broken marks-read-before-six fast.c 's/(    if \(g_len < count)/    (void)((volatile uint8_t *)marks)[count - 1];\n$1/'
 broken path-written-alike-behind fast.c 's/(answer\.vertices = needed;)/$1 ((volatile wexxolin_vertex *)path)[path_len] = path[path_len];/'
@@ -333,6 +355,7 @@ broken g-length-in-32-bits fast.c 's/g_len < count/(uint32_t)g_len < count/' far
 broken parents-length-in-32-bits fast.c 's/parents_len < count/(uint32_t)parents_len < count/' far
 broken parents-length-in-31-bits fast.c 's/parents_len < count/(parents_len \& 0x7fffffff) < count/' far
 broken marks-length-in-16-bits fast.c 's/marks_len < count/(uint16_t)marks_len < count/' far
+broken legs-length-in-32-bits fast.c 's/legs_len < count/(uint32_t)legs_len < count/' far
 broken path-length-in-32-bits fast.c 's/needed > path_len/needed > (uint32_t)path_len/' far
 broken g-length-as-int fast.c 's/g_len < count/(int)g_len < (int)count/' far
 broken job-length-in-32-bits fast_library.c 's/length > 8192 \|\|/(uint32_t)length > 8192 ||/' far

@@ -58,7 +58,7 @@ struct slice {
     void *ours;
 };
 
-static struct slice cells, g, parents, marks, path, job, board, packed;
+static struct slice cells, g, parents, marks, legs, path, job, board, packed;
 
 static void open_slice(struct slice *slice, const char *name, size_t size)
 {
@@ -86,14 +86,15 @@ static void compare_slice(const struct slice *slice)
 /* ---------- sight and route ---------- */
 
 struct route_case {
-    size_t cells_len, width, height, sx, sy, gx, gy, g_len, parents_len, marks_len, path_len;
+    size_t cells_len, width, height, sx, sy, gx, gy, g_len, parents_len, marks_len, legs_len, path_len;
 };
 
 static void tell_case(const char *call, const struct route_case *c)
 {
     snprintf(request, sizeof request,
-             "%s: %zu cells, width %zu, height %zu, from (%zu,%zu) to (%zu,%zu), g %zu, parents %zu, marks %zu, path %zu", call,
-             c->cells_len, c->width, c->height, c->sx, c->sy, c->gx, c->gy, c->g_len, c->parents_len, c->marks_len, c->path_len);
+             "%s: %zu cells, width %zu, height %zu, from (%zu,%zu) to (%zu,%zu), g %zu, parents %zu, marks %zu, legs %zu, path %zu", call,
+             c->cells_len, c->width, c->height, c->sx, c->sy, c->gx, c->gy, c->g_len, c->parents_len, c->marks_len, c->legs_len,
+             c->path_len);
 }
 
 static void compare_sight(const struct route_case *c)
@@ -112,17 +113,19 @@ static void compare_route(const struct route_case *c)
     uint64_t *lent_g = lend(&g, c->g_len, sizeof *lent_g);
     wexxolin_vertex *lent_parents = lend(&parents, c->parents_len, sizeof *lent_parents);
     uint8_t *lent_marks = lend(&marks, c->marks_len, sizeof *lent_marks);
+    wexxolin_vertex *lent_legs = lend(&legs, c->legs_len, sizeof *lent_legs);
     wexxolin_vertex *lent_path = lend(&path, c->path_len, sizeof *lent_path);
     struct wexxolin_route a =
         wexxolin_route(board_cells, c->cells_len, c->width, c->height, c->sx, c->sy, c->gx, c->gy, lent_g, c->g_len,
-                       lent_parents, c->parents_len, lent_marks, c->marks_len, lent_path, c->path_len);
+                       lent_parents, c->parents_len, lent_marks, c->marks_len, lent_legs, c->legs_len, lent_path, c->path_len);
     struct wexxolin_route b =
         second_route(board_cells, c->cells_len, c->width, c->height, c->sx, c->sy, c->gx, c->gy, g.ours, c->g_len,
-                     parents.ours, c->parents_len, marks.ours, c->marks_len, path.ours, c->path_len);
+                     parents.ours, c->parents_len, marks.ours, c->marks_len, legs.ours, c->legs_len, path.ours, c->path_len);
     compare(&a, &b, sizeof a);
     compare_slice(&g);
     compare_slice(&parents);
     compare_slice(&marks);
+    compare_slice(&legs);
     compare_slice(&path);
 }
 
@@ -130,7 +133,7 @@ static void compare_route(const struct route_case *c)
 static struct route_case good_case(size_t width, size_t height)
 {
     size_t vertices = (width + 1) * (height + 1);
-    struct route_case c = {width * height, width, height, 0, 0, 0, 0, vertices, vertices, vertices, vertices};
+    struct route_case c = {width * height, width, height, 0, 0, 0, 0, vertices, vertices, vertices, vertices, vertices};
     board_scattered(&dice, cells.room.ours, width, height, 20);
     c.sx = below(width + 1), c.sy = below(height + 1);
     c.gx = width < 8 ? below(width + 1) : c.sx - (c.sx > 2 ? 2 : 0);
@@ -150,6 +153,7 @@ static void far_slices(struct route_case c)
     stretch(&c.g_len);
     stretch(&c.parents_len);
     stretch(&c.marks_len);
+    stretch(&c.legs_len);
     stretch(&c.path_len);
     compare_route(&c);
     c.cells_len += far_lengths[below(LENGTHS)];
@@ -300,6 +304,7 @@ int main(int argc, char **argv)
     open_slice(&g, "g", sizeof(uint64_t));
     open_slice(&parents, "parents", sizeof(wexxolin_vertex));
     open_slice(&marks, "marks", 1);
+    open_slice(&legs, "legs", sizeof(wexxolin_vertex));
     open_slice(&path, "path", sizeof(wexxolin_vertex));
     open_slice(&job, "job", 1);
     open_slice(&board, "board", 1);

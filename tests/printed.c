@@ -164,7 +164,7 @@ static void job_lines(struct second_text *text, const struct job *job)
 {
     static uint8_t cells[63 * 63], marks[MOST];
     static uint64_t g[MOST];
-    static wexxolin_vertex parents[MOST];
+    static wexxolin_vertex parents[MOST], legs[MOST];
     static struct values v;
     v = (struct values){0};
     struct wexxolin_board board = wexxolin_board(job->bytes, job->length, cells, sizeof cells);
@@ -174,7 +174,8 @@ static void job_lines(struct second_text *text, const struct job *job)
     for (size_t i = 0; i < board.nets; i++) {
         struct wexxolin_net net = wexxolin_net(job->bytes, job->length, i);
         struct wexxolin_route route = wexxolin_route(cells, board.width * board.height, board.width, board.height, net.sx, net.sy,
-                                                     net.gx, net.gy, g, MOST, parents, MOST, marks, MOST, v.path, MOST);
+                                                     net.gx, net.gy, g, MOST, parents, MOST, marks, MOST, legs, MOST, v.path,
+                                                     MOST);
         v.net = net.net, v.number = route.number, v.units = route.units, v.count = route.vertices;
         v.expansions = route.expansions, v.tests = route.tests;
         add_line(text, &v);

@@ -20,7 +20,7 @@ static struct dice dice;
 static struct room stack;
 static uint8_t cells[CELLS], marks[VERTICES], board[CELLS], packed[8 * SIDE], line[WEXXOLIN_LONGEST_LINE];
 static uint64_t g[VERTICES];
-static wexxolin_vertex parents[VERTICES], path[VERTICES];
+static wexxolin_vertex parents[VERTICES], legs[VERTICES], path[VERTICES];
 static struct job job;
 static size_t from_x, from_y;
 
@@ -30,7 +30,7 @@ static volatile uint64_t number;
 static void call_route(void)
 {
     number = wexxolin_route(cells, CELLS, SIDE, SIDE, from_x, from_y, SIDE, SIDE, g, VERTICES, parents, VERTICES, marks, VERTICES,
-                            path, VERTICES)
+                            legs, VERTICES, path, VERTICES)
                  .number;
 }
 static void call_sight(void) { number = wexxolin_sight(cells, CELLS, SIDE, SIDE, from_x, from_y, SIDE, SIDE).number; }

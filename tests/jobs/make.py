@@ -55,6 +55,9 @@ job("diagonal-gap", "2 by 2, (1,0) and (0,1) blocked: no path passes (1,1), whic
     [board(2, 2), keepout(1, 0, 2, 1), keepout(0, 1, 1, 2), net(1, 0, 0, 2, 2), net(2, 2, 0, 0, 2), net(3, 1, 1, 2, 2), net(4, 0, 0, 1, 1)],
     "net 1 none expanded 3 tests 3\nnet 2 none expanded 1 tests 0\nnet 3 path 1482910 expanded 1 tests 6 at 1,1 2,2\n"
     "net 4 path 1482910 expanded 1 tests 3 at 0,0 1,1\n")
+blocked = [(5, 0), (6, 0), (4, 1), (2, 2), (3, 2), (4, 2), (5, 2), (7, 2), (5, 3), (2, 5), (4, 5)]
+job("fewer-legs-longer", "9 by 6: a tie taken by fewer legs, not by the vertex number, ends in a longer path (docs/RULES.md)",
+    [board(9, 6)] + [keepout(x, y, x + 1, y + 1) for x, y in blocked] + [net(1, 5, 1, 3, 5)])
 
 # 10 and 11: the length
 long_rows = [board(24, 24)]

@@ -1,4 +1,4 @@
-/* The second router. Every comment in quotation marks is the wording of document 01, or of 02's items 2, 3, 6 and 10. */
+/* The second router. Every comment in quotation marks is the wording of document 01, or of 02's items 2, 3, 6, 8 and 10. */
 #include "second.h"
 
 #include <stdarg.h>
@@ -522,6 +522,7 @@ struct search {
     uint64_t *g;
     wexxolin_vertex *parents;
     uint8_t *marks;
+    wexxolin_vertex *legs;
     uint64_t h[MOST_VERTICES];
     uint64_t expansions, tests;
 };
@@ -531,13 +532,15 @@ static uint64_t leg_units(struct point a, struct point b)
     return units_of(b.x - a.x, b.y - a.y);
 }
 
-/* "an unseen vertex has g 0 and parent 0"; "h is the leg length to the goal" */
+/* "an unseen vertex has g 0 and parent 0"; "each vertex's legs from the start: 0 there and where unseen"; "h is the leg length to
+   the goal" */
 static void forget_all(struct search *s)
 {
     for (size_t v = 0; v < vertex_count(&s->board); v++) {
         s->g[v] = 0;
         s->parents[v] = 0;
         s->marks[v] = UNSEEN;
+        s->legs[v] = 0;
         s->h[v] = leg_units(vertex_point(&s->board, v), s->goal);
     }
     s->expansions = 0;
@@ -553,7 +556,7 @@ static void open_start(struct search *s)
     s->marks[start] = OPEN;
 }
 
-/* "least f; equal f: least g (document 000); equal g: least vertex number", where "f = g + h, in units" */
+/* "Among open vertices the order is now f, g, fewer legs, vertex number", where "f = g + h, in units" */
 static int comes_before(const struct search *s, size_t v, size_t w)
 {
     uint64_t fv = s->g[v] + s->h[v], fw = s->g[w] + s->h[w];
@@ -561,6 +564,8 @@ static int comes_before(const struct search *s, size_t v, size_t w)
         return fv < fw;
     if (s->g[v] != s->g[w])
         return s->g[v] < s->g[w];
+    if (s->legs[v] != s->legs[w])
+        return s->legs[v] < s->legs[w];
     return v < w;
 }
 
@@ -576,7 +581,8 @@ static size_t first_open(const struct search *s)
 
 /* "make one sight test from the taken vertex's parent to that neighbour. With sight, the candidate parent is that parent;
    without, the taken vertex itself. The candidate g is the candidate parent's g plus the leg's length. If the neighbour is
-   unseen, or the candidate g is strictly smaller, it gets that g and parent and is open." */
+   unseen, or the candidate g is strictly smaller, it gets that g and parent and is open." "When a neighbour would get an equal g
+   with fewer legs, it takes the new parent too."; its legs are "one more than its parent's" */
 static void update(struct search *s, size_t taken, size_t neighbour)
 {
     size_t parent = s->parents[taken];
@@ -584,10 +590,13 @@ static void update(struct search *s, size_t taken, size_t neighbour)
     s->tests++;
     size_t candidate = has_sight(&s->board, vertex_point(&s->board, parent), to) ? parent : taken;
     uint64_t candidate_g = s->g[candidate] + leg_units(vertex_point(&s->board, candidate), to);
-    if (s->marks[neighbour] == UNSEEN || candidate_g < s->g[neighbour]) {
+    int candidate_legs = s->legs[candidate] + 1;
+    if (s->marks[neighbour] == UNSEEN || candidate_g < s->g[neighbour] ||
+        (candidate_g == s->g[neighbour] && candidate_legs < s->legs[neighbour])) {
         s->g[neighbour] = candidate_g;
         s->parents[neighbour] = (wexxolin_vertex)candidate;
         s->marks[neighbour] = OPEN;
+        s->legs[neighbour] = (wexxolin_vertex)candidate_legs;
     }
 }
 
@@ -648,7 +657,8 @@ static uint64_t path_units(const struct search *s, const wexxolin_vertex *path, 
     return units;
 }
 
-/* "0: length, units, vertex count, both counts"; "7: vertex count needed", as the place; "8: both counts" */
+/* "0: length, units, vertex count, both counts"; "The legs returned equal the path's vertices less one."; "7: vertex count needed",
+   as the place; "8: both counts" */
 static struct wexxolin_route search_answer(struct search *s, wexxolin_vertex *path, size_t path_len)
 {
     struct wexxolin_route answer = {.number = 0, .place = 0};
@@ -663,6 +673,7 @@ static struct wexxolin_route search_answer(struct search *s, wexxolin_vertex *pa
         answer.units = path_units(s, path, count);
         answer.cells = cells_of(answer.units);
         answer.vertices = count;
+        answer.legs = count - 1;
     } else {
         answer.number = 8;
     }
@@ -671,16 +682,17 @@ static struct wexxolin_route search_answer(struct search *s, wexxolin_vertex *pa
     return answer;
 }
 
-/* "6: g, parent or mark slice shorter than the vertex count" */
+/* "6: g, parent or mark slice shorter than the vertex count"; "6 covers the new slice" */
 struct wexxolin_route second_route(const uint8_t *cells, size_t cells_len, size_t width, size_t height,
                                    size_t sx, size_t sy, size_t gx, size_t gy,
                                    uint64_t *g, size_t g_len, wexxolin_vertex *parents, size_t parents_len,
-                                   uint8_t *marks, size_t marks_len, wexxolin_vertex *path, size_t path_len)
+                                   uint8_t *marks, size_t marks_len, wexxolin_vertex *legs, size_t legs_len,
+                                   wexxolin_vertex *path, size_t path_len)
 {
     struct refusal refusal = check_board_and_ends(cells, cells_len, width, height, sx, sy, gx, gy);
     if (refusal.number == 0) {
         size_t count = (width + 1) * (height + 1);
-        if (g_len < count || parents_len < count || marks_len < count)
+        if (g_len < count || parents_len < count || marks_len < count || legs_len < count)
             refusal = refuse(6, 0);
     }
     if (refusal.number) {
@@ -688,7 +700,7 @@ struct wexxolin_route second_route(const uint8_t *cells, size_t cells_len, size_
         return answer;
     }
     struct search s = {.board = {cells, (int)width, (int)height}, .start = {(int)sx, (int)sy}, .goal = {(int)gx, (int)gy},
-                       .g = g, .parents = parents, .marks = marks};
+                       .g = g, .parents = parents, .marks = marks, .legs = legs};
     return search_answer(&s, path, path_len);
 }
 
@@ -959,11 +971,11 @@ static void net_line(const uint8_t *cells, const struct wexxolin_board *b, const
                      struct second_text *text)
 {
     static uint64_t g[MOST_VERTICES];
-    static wexxolin_vertex parents[MOST_VERTICES], path[MOST_VERTICES];
+    static wexxolin_vertex parents[MOST_VERTICES], legs[MOST_VERTICES], path[MOST_VERTICES];
     static uint8_t marks[MOST_VERTICES];
     struct wexxolin_route r =
         second_route(cells, b->width * b->height, b->width, b->height, net->sx, net->sy, net->gx, net->gy, g, MOST_VERTICES,
-                     parents, MOST_VERTICES, marks, MOST_VERTICES, path, MOST_VERTICES);
+                     parents, MOST_VERTICES, marks, MOST_VERTICES, legs, MOST_VERTICES, path, MOST_VERTICES);
     second_print(text, "net %u ", (unsigned)net->net);
     if (r.number == 0)
         second_print(text, "path %llu ", (unsigned long long)r.units);

@@ -17,7 +17,8 @@ struct wexxolin_direction second_direction_between(size_t ax, size_t ay, size_t 
 struct wexxolin_route second_route(const uint8_t *cells, size_t cells_len, size_t width, size_t height,
                                    size_t sx, size_t sy, size_t gx, size_t gy,
                                    uint64_t *g, size_t g_len, wexxolin_vertex *parents, size_t parents_len,
-                                   uint8_t *marks, size_t marks_len, wexxolin_vertex *path, size_t path_len);
+                                   uint8_t *marks, size_t marks_len, wexxolin_vertex *legs, size_t legs_len,
+                                   wexxolin_vertex *path, size_t path_len);
 
 /* Where "legs with sight, of any lengths, lead" from (sx, sy) (document 02, item 10), on a board and from a start that are accepted:
    writes for each vertex number 1 or 0. */

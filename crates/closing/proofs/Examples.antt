@@ -36,7 +36,7 @@ full = board (1 ∷ []) 1 1
 
 -- work slices for four vertices, and a path slice
 abbrev pub lent : (path : ℕ) → Slices
-lent path = slices (replicate 4 0) (replicate 4 0) (replicate 4 0) (replicate path 0)
+lent path = slices (replicate 4 0) (replicate 4 0) (replicate 4 0) (replicate 4 0) (replicate path 0)
 
 -- from (0, 0) to (1, 1): the cell is free; free, and the path slice is too short; blocked
 pub examples : (routeRow free 0 0 1 1 (lent 2) .number ≡ 0) × (routeRow free 0 0 1 1 (lent 1) .number ≡ 7)

@@ -17,7 +17,7 @@ use Rattle.theta.proofs.Completeness.{none-open, none-expanded}
 use Rattle.theta.proofs.Routes.{goal-open}
 use Rattle.problem.specs.Problem.{problem}
 use Rattle.problem.proofs.Fair.{board-fair}
-use Rattle.problem.proofs.Theorems.{board-work}
+use Rattle.problem.proofs.Theorems.{board-work, board-counted, board-parents}
 use Rattle.router.specs.Answers.{Route, Slices, searchRow, routeRow, searched, Routed}
 use Rattle.router.proofs.Written.{Filled, filled-beyond, filled-front, filled-at}
 use Rattle.router.proofs.Demands.{start-on, row-searched, row-path, row-none, eight-none, other-found, success, failure, route-rightly}
@@ -81,6 +81,10 @@ module _ {b : Board} {sx sy gx gy : ℕ} {before after : Slices} {h : Handed Rou
   unfolding problem
   marks-filled = record { is = ap (λ (s : Slices). s .marks) (R .after-is); size = λ r. work r .mark-size }
 
+  legs-filled : Filled (searched (h .number)) (vertices b) (search p .state .legs) (before .legs) (after .legs)
+  unfolding problem
+  legs-filled = record { is = ap (λ (s : Slices). s .legs) (R .after-is); size = λ r. work r .legs-size }
+
   path-filled : Filled (eqb (h .number) 0) (h .values .vertices) (path p (search p .state)) (before .path) (after .path)
   path-filled = record {
     is = ap (λ (s : Slices). s .path) (R .after-is);
@@ -94,6 +98,7 @@ module _ {b : Board} {sx sy gx gy : ℕ} {before after : Slices} {h : Handed Rou
     g-beyond = filled-beyond g-filled;
     parents-beyond = filled-beyond parents-filled;
     marks-beyond = filled-beyond marks-filled;
+    legs-beyond = filled-beyond legs-filled;
     path-beyond = filled-beyond path-filled;
   }
 
@@ -123,15 +128,23 @@ module _ {b : Board} {sx sy gx gy : ℕ} {before after : Slices} {h : Handed Rou
       let r = ran (h .number) s in
       let W = work r in
       let F = board-fair b sx sy gx gy (on-board r) in
+      let L = board-counted b sx sy gx gy (on-board r) in
       let mark = filled-at marks-filled r in
+      let leg = filled-at legs-filled r in
       record {
         g-is = filled-front g-filled r;
         parents-is = filled-front parents-filled r;
         marks-is = filled-front marks-filled r;
+        legs-is = filled-front legs-filled r;
         marks = λ v l. rw (mark v l) (W .marks v l);
         unseen = λ v l e.
             let u = sym (mark v l) ∙ e in
-            (filled-at g-filled r v l ∙ W .unseen-g v l u, filled-at parents-filled r v l ∙ W .unseen-parent v l u);
+            (filled-at g-filled r v l ∙ W .unseen-g v l u, filled-at parents-filled r v l ∙ W .unseen-parent v l u, leg v l ∙ W .unseen-legs v l u);
+        start-legs = leg (number b sx sy) (F .ground .start-on) ∙ L .start-legs;
+        seen-legs = λ v l m d.
+            let e : at (after .parents) v ≡ at (search p .state .parent) v = filled-at parents-filled r v l in
+            let on : at (after .parents) v < vertices b = rw e (board-parents b sx sy gx gy (on-board r) v l) in
+            leg v l ∙ L .seen-legs v l (λ z. m (mark v l ∙ z)) d ∙ rw (leg (at (after .parents) v) on, e) refl;
         goal-open = λ d. let q = found-open r d in mark (number b gx gy) (q .0) ∙ q .1;
         none-open = λ e v l m. none-open F (found-none r e) v l (sym (mark v l) ∙ m);
         expanded = λ e v l.

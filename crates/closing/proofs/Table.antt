@@ -109,7 +109,9 @@ module _ (b : Board) (sx sy gx gy : ℕ) (lent : Slices) where
   bad = ltb (firstBad (b .cells)) (length (b .cells))
 
   abbrev short : Bool
-  short = ltb (length (lent .g)) (vertices b) || (ltb (length (lent .parents)) (vertices b) || ltb (length (lent .marks)) (vertices b))
+  short =
+      ltb (length (lent .g)) (vertices b)
+      || (ltb (length (lent .parents)) (vertices b) || (ltb (length (lent .marks)) (vertices b) || ltb (length (lent .legs)) (vertices b)))
 
   abbrev searching : Handed Route
   searching = searchRow (problem b sx sy gx gy) (length (lent .path))
@@ -131,10 +133,13 @@ module _ (b : Board) (sx sy gx gy : ℕ) (lent : Slices) where
 
   short-work : Says short (ShortWork b lent)
   short-work =
-      says-either (ltb (length (lent .g)) (vertices b)) (ltb (length (lent .parents)) (vertices b) || ltb (length (lent .marks)) (vertices b))
+      says-either (ltb (length (lent .g)) (vertices b))
+      (ltb (length (lent .parents)) (vertices b) || (ltb (length (lent .marks)) (vertices b) || ltb (length (lent .legs)) (vertices b)))
       (says-below (length (lent .g)) (vertices b))
-      (says-either (ltb (length (lent .parents)) (vertices b)) (ltb (length (lent .marks)) (vertices b))
-      (says-below (length (lent .parents)) (vertices b)) (says-below (length (lent .marks)) (vertices b)))
+      (says-either (ltb (length (lent .parents)) (vertices b)) (ltb (length (lent .marks)) (vertices b) || ltb (length (lent .legs)) (vertices b))
+      (says-below (length (lent .parents)) (vertices b))
+      (says-either (ltb (length (lent .marks)) (vertices b)) (ltb (length (lent .legs)) (vertices b)) (says-below (length (lent .marks)) (vertices b))
+      (says-below (length (lent .legs)) (vertices b))))
 
   -- the rows 7, 8 and 0
   last-given : OnBoard b sx sy → GivenBySearch b sx sy gx gy lent (searching .number) (searching .place)
@@ -150,7 +155,7 @@ module _ (b : Board) (sx sy gx gy : ℕ) (lent : Slices) where
       go : (f l : Bool) → search (problem b sx sy gx gy) .found ≡ f → ltb (length (lent .path)) (length (thePath b sx sy gx gy)) ≡ l
           → let s = search (problem b sx sy gx gy) .state in
           let n = length (thePath b sx sy gx gy) in
-          let h = cond f (unless noRoute (row l 7 n) (found (at (s .g) (problem b sx sy gx gy .goal)) n (s .expansions) (s .tests)))
+          let h = cond f (unless noRoute (row l 7 n) (found (at (s .g) (problem b sx sy gx gy .goal)) n (at (s .legs) (problem b sx sy gx gy .goal)) (s .expansions) (s .tests)))
           (none (s .expansions) (s .tests)) in
           GivenBySearch b sx sy gx gy lent (h .number) (h .place)
       go true true e l = holds refl (refl, joined e, ltb-true (length (lent .path)) (length (thePath b sx sy gx gy)) l)
@@ -192,7 +197,7 @@ module _ (b : Board) (sx sy gx gy : ℕ) (lent : Slices) where
       go : (f l : Bool)
           → let s = search (problem b sx sy gx gy) .state in
           let n = length (thePath b sx sy gx gy) in
-          Bare (cond f (unless noRoute (row l 7 n) (found (at (s .g) (problem b sx sy gx gy .goal)) n (s .expansions) (s .tests)))
+          Bare (cond f (unless noRoute (row l 7 n) (found (at (s .g) (problem b sx sy gx gy .goal)) n (at (s .legs) (problem b sx sy gx gy .goal)) (s .expansions) (s .tests)))
           (none (s .expansions) (s .tests)))
       go true true = (refl, λ l m. refl)
       go true false = (refl, λ l m. absurd (omega arith))

@@ -34,9 +34,11 @@ pub record FirstWrong (cells : List ℕ) (i : ℕ) : Type 0 where
 abbrev pub OffBoard : Board → (x y : ℕ) → Type 0
 OffBoard b x y = (b .width < x) ⊎ (b .height < y)
 
--- g, parents or marks has fewer entries than there are vertices
+-- g, parents, marks or legs has fewer entries than there are vertices
 abbrev pub ShortWork : Board → Slices → Type 0
-ShortWork b lent = (length (lent .g) < vertices b) ⊎ ((length (lent .parents) < vertices b) ⊎ (length (lent .marks) < vertices b))
+ShortWork b lent =
+    (length (lent .g) < vertices b)
+    ⊎ ((length (lent .parents) < vertices b) ⊎ ((length (lent .marks) < vertices b) ⊎ (length (lent .legs) < vertices b)))
 
 -- single moves between visible neighbours join the start to the goal
 abbrev pub HasPath : Board → (sx sy gx gy : ℕ) → Type 0
@@ -101,11 +103,13 @@ pub record Kept (b : Board) (before after : Slices) (h : Handed Route) : Type 0 
   pub g-beyond : KeptFrom (vertices b) (before .g) (after .g)
   pub parents-beyond : KeptFrom (vertices b) (before .parents) (after .parents)
   pub marks-beyond : KeptFrom (vertices b) (before .marks) (after .marks)
+  pub legs-beyond : KeptFrom (vertices b) (before .legs) (after .legs)
   pub path-beyond : KeptFrom (h .values .vertices) (before .path) (after .path)
 
 -- ---- demand 2
 
--- with 0 the path slice holds the path of Basic Theta*, which is a route, rightly measured; with 0 and 8 the counts are its counts
+-- with 0 the path slice holds the path of Basic Theta*, which is a route, rightly measured, its legs its vertices less one (router's
+-- Rightly); with 0 and 8 the counts are its counts
 pub record Theta (b : Board) (sx sy gx gy : ℕ) (after : Slices) (h : Handed Route) : Type 0 where
   pub path-is : h .number ≡ 0 → take (h .values .vertices) (after .path) ≡ thePath b sx sy gx gy
   pub rightly : h .number ≡ 0 → Rightly b sx sy gx gy h (after .path)
@@ -120,14 +124,20 @@ pub record Theta (b : Board) (sx sy gx gy : ℕ) (after : Slices) (h : Handed Ro
 abbrev pub Searched : (n : ℕ) → Type 0
 Searched n = (n ≡ 0) ⊎ ((n ≡ 7) ⊎ (n ≡ 8))
 
--- the work slices hold what Basic Theta* ends with; a mark is 0, 1 or 2, and an unseen vertex has g 0 and parent 0; with a path the goal
--- is open; with none nothing is open, and the vertices joined to the start are expanded, and they alone
+-- the work slices hold what Basic Theta* ends with; a mark is 0, 1 or 2, and an unseen vertex has g 0, parent 0 and no legs; the start
+-- has no legs, and any other vertex that is seen one more than its parent; with a path the goal is open; with none nothing is open, and
+-- the vertices joined to the start are expanded, and they alone
 pub record Left (b : Board) (sx sy gx gy : ℕ) (after : Slices) (h : Handed Route) : Type 0 where
   pub g-is : take (vertices b) (after .g) ≡ ended b sx sy gx gy .g
   pub parents-is : take (vertices b) (after .parents) ≡ ended b sx sy gx gy .parent
   pub marks-is : take (vertices b) (after .marks) ≡ ended b sx sy gx gy .mark
+  pub legs-is : take (vertices b) (after .legs) ≡ ended b sx sy gx gy .legs
   pub marks : (v : ℕ) → v < vertices b → at (after .marks) v ≤ 2
-  pub unseen : (v : ℕ) → v < vertices b → at (after .marks) v ≡ 0 → (at (after .g) v ≡ 0) × (at (after .parents) v ≡ 0)
+  pub unseen : (v : ℕ) → v < vertices b → at (after .marks) v ≡ 0
+      → (at (after .g) v ≡ 0) × (at (after .parents) v ≡ 0) × (at (after .legs) v ≡ 0)
+  pub start-legs : at (after .legs) (number b sx sy) ≡ 0
+  pub seen-legs : (v : ℕ) → v < vertices b → at (after .marks) v ≢ 0 → v ≢ number b sx sy
+      → at (after .legs) v ≡ at (after .legs) (at (after .parents) v) + 1
   pub goal-open : h .number ≢ 8 → at (after .marks) (number b gx gy) ≡ 1
   pub none-open : h .number ≡ 8 → (v : ℕ) → v < vertices b → at (after .marks) v ≢ 1
   pub expanded : h .number ≡ 8 → (v : ℕ) → v < vertices b → (at (after .marks) v ≡ 2) ↔ Joined b sx sy gx gy v
@@ -166,5 +176,5 @@ fields r = record {
   number = r .number;
   place = r .place;
   second = r .second;
-  values = record { cells = r .cells; units = r .units; vertices = r .vertices; expansions = r .expansions; tests = r .tests };
+  values = record { cells = r .cells; units = r .units; vertices = r .vertices; legs = r .legs; expansions = r .expansions; tests = r .tests };
 }

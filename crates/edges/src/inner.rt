@@ -8,11 +8,11 @@ ghost use Rattle.legs.specs.Leg.{far};
 ghost use Rattle.legs.specs.Pinched.{crosswise};
 ghost use Rattle.legs.specs.Stops.{edgeFrom, edgesStop};
 ghost use Rattle.edges.specs.Edges.{cellOn, vertexFrom, stopAfter};
-use walls::leg;
-use walls::walls::line_behind;
 use board::inner::is_cell_blocked;
 use board::inner::line_before;
 use legs::Stop;
+use walls::leg;
+use walls::walls::line_behind;
 
 // The unit edge from p to q on the row c (level) or on the column c.
 fn edge(level: bool, c: usize, p: usize, q: usize) -> Stop

@@ -8,8 +8,8 @@ ghost use Rattle.board.specs.Board.{columnOf, rowOf};
 ghost use Rattle.lines.specs.Lines.{decimal, mostDigits, vertexField, vertexFields, spaced};
 ghost use Rattle.lines.specs.Answers.{bytesOf};
 ghost use Rattle.lines.specs.Inner.{Counted, Placed};
-use lines::Line;
 use board::Vertex;
+use lines::Line;
 
 // A vertex by its column and row.
 pub struct Place {

@@ -1,6 +1,7 @@
 -- The open list of a board: it begins empty, a vertex opens, one is expanded, its first is the least, and no key is stale. Assumes nothing.
 use mathlib.Core.Path.{_≡_, refl, sym, ap, _∙_}
-use mathlib.Core.Logic.{_≢_}
+use mathlib.Core.Bool.{true}
+use mathlib.Core.Logic.{inl, inr, _≢_}
 use mathlib.Core.List.{List}
 use Prim.Native.Nat.{ℕ, _+_, _*_, _^_, _≤_, _<_}
 use native.Mathlib.Omega.{arith}
@@ -14,14 +15,15 @@ use Rattle.board.proofs.Numbers.{number-below}
 use Rattle.length.specs.Legs.{step}
 use Rattle.length.specs.Units.{units}
 use Rattle.reach.specs.Turns.{at}
-use Rattle.theta.specs.Order.{ranked, least}
+use Rattle.theta.specs.Order.{Rank, ranked, sooner, least}
+use Rattle.theta.specs.Lent.{Better}
 use Rattle.tournament.specs.Ranks.{seen, numbers}
 use Rattle.tournament.specs.Contest.{noKey, WellRanked}
 use Rattle.tournament.specs.Tournament.{Else, Opened}
 use Rattle.tournament.specs.Nodes.{Entered, Renewed}
 use Rattle.open.specs.Groups.{leafAt, groupsOf, nodesOf}
 use Rattle.open.specs.Marked.{toGoal, boardContest, Sited, Small, Listed, Blank, Lower, Looked, Opens, Closes}
-use Rattle.theta.proofs.Order.{sooner-lower}
+use Rattle.theta.proofs.Order.{sooner-lower, sooner-fewer}
 use Rattle.tournament.proofs.Playing.{tournament-none, key-now}
 use Rattle.tournament.proofs.Scanning.{root-least, root-on, root-none}
 use Rattle.open.proofs.Grouping.{planted, leaves-positive, leaf-number}
@@ -29,46 +31,61 @@ use Rattle.open.proofs.Looking.{contest-shown, contest-fair, to-goal, n
 
 -- ---- what a change of the entries does to the contest
 
-module _ (width height gx gy w : ℕ) (g m : List ℕ) where
-  -- w opens, or its g falls to `own`
-  contest-opened : (own : ℕ) → w < (width + 1) * (height + 1) → Small ((width + 1) * (height + 1)) g m → (at m w ≡ 1 → own < at g w)
-      → Opened (boardContest width height gx gy g m) (boardContest width height gx gy (set g w own) (set m w 1)) w (ranked (own + toGoal width gx gy w) own w)
-  contest-opened own o S d = record {
+-- a rank by what is known of v, h being its leg to the goal
+abbrev rankBy : (h v g legs : ℕ) → Rank
+rankBy h v g legs = ranked (g + h) g legs v
+
+module _ (width height gx gy w : ℕ) (g m l : List ℕ) where
+  -- w opens, or gets a better g or the same with fewer legs
+  contest-opened : (own count : ℕ) → w < (width + 1) * (height + 1) → Small ((width + 1) * (height + 1)) g m l
+      → (at m w ≡ 1 → Better own count (at g w) (at l w))
+      → Opened (boardContest width height gx gy g m l) (boardContest width height gx gy (set g w own) (set m w 1) (set l w count)) w
+      (rankBy (toGoal width gx gy w) w own count)
+  contest-opened own count o S d = record {
     others = record {
       size-same = refl;
-      open-same = λ v l x. ap (λ (z : ℕ). eqb z 1) (getD-set-other m w v 1 0 x);
-      rank-same = λ v l x. ap (λ (z : ℕ). ranked (z + toGoal width gx gy v) z v) (getD-set-other g w v own 0 x);
+      open-same = λ v k x. ap (λ (z : ℕ). eqb z 1) (getD-set-other m w v 1 0 x);
+      rank-same = λ v k x. rw (getD-set-other g w v own 0 x, getD-set-other l w v count 0 x) refl;
     };
     on = o;
     opens = eq-eqb (at (set m w 1) w) 1 (getD-set-same m w 1 0 (omega (arith, S .room-m)));
-    rank-is = ap (λ (z : ℕ). ranked (z + toGoal width gx gy w) z w) (getD-set-same g w own 0 (omega (arith, S .room-g)));
-    sooner-now = λ e. let l = d (eqb-true (at m w) 1 e) in
-        sooner-lower (ranked (own + toGoal width gx gy w) own w) (seen g w (at g w + toGoal width gx gy w)) (omega arith);
+    rank-is = rw (getD-set-same g w own 0 (omega (arith, S .room-g)), getD-set-same l w count 0 (omega (arith, S .room-l))) refl;
+    sooner-now = λ e. go (d (eqb-true (at m w) 1 e));
   }
+    where
+      go : Better own count (at g w) (at l w)
+          → sooner (rankBy (toGoal width gx gy w) w own count) (rankBy (toGoal width gx gy w) w (at g w) (at l w)) ≡ true
+      go (inl x) =
+          sooner-lower (rankBy (toGoal width gx gy w) w own count) (rankBy (toGoal width gx gy w) w (at g w) (at l w)) (omega arith)
+      go (inr x) =
+          sooner-fewer (rankBy (toGoal width gx gy w) w own count) (rankBy (toGoal width gx gy w) w (at g w) (at l w))
+          (ap (λ (z : ℕ). z + toGoal width gx gy w) (x .0)) (x .0) (x .1)
 
   -- w is expanded
-  contest-closed : Else (boardContest width height gx gy g m) (boardContest width height gx gy g (set m w 2)) w
+  contest-closed : Else (boardContest width height gx gy g m l) (boardContest width height gx gy g (set m w 2) l) w
   contest-closed = record {
     size-same = refl;
-    open-same = λ v l x. ap (λ (z : ℕ). eqb z 1) (getD-set-other m w v 2 0 x);
-    rank-same = λ v l x. refl;
+    open-same = λ v k x. ap (λ (z : ℕ). eqb z 1) (getD-set-other m w v 2 0 x);
+    rank-same = λ v k x. refl;
   }
 
-small-opened : {n w : ℕ} {g m : List ℕ} (own : ℕ) → w < n → own < 2 ^ 63 → Small n g m → Small n (set g w own) (set m w 1)
-small-opened {n} {w} {g} {m} own o l S = record {
+small-opened : {n w : ℕ} {g m l : List ℕ} (own count : ℕ) → w < n → own < 2 ^ 63 → Small n g m l → Small n (set g w own) (set m w 1) (set l w count)
+small-opened {n} {w} {g} {m} own count o b S = record {
   room-g = rw length-set (S .room-g);
   room-m = rw length-set (S .room-m);
+  room-l = rw length-set (S .room-l);
   small = λ v k e. go v k e (ℕ-discrete v w);
 }
   where
     go : (v : ℕ) → v < n → at (set m w 1) v ≡ 1 → Dec (v ≡ w) → at (set g w own) v < 2 ^ 63
-    go v k e (yes z) = rw (z, getD-set-same g w own 0 (omega (arith, S .room-g))) l
+    go v k e (yes z) = rw (z, getD-set-same g w own 0 (omega (arith, S .room-g))) b
     go v k e (no z) = rw (getD-set-other g w v own 0 z) (S .small v k (sym (getD-set-other m w v 1 0 z) ∙ e))
 
-pub small-closed : {n w : ℕ} {g m : List ℕ} → w < n → Small n g m → Small n g (set m w 2)
+pub small-closed : {n w : ℕ} {g m l : List ℕ} → w < n → Small n g m l → Small n g (set m w 2) l
 small-closed {n} {w} {g} {m} o S = record {
   room-g = S .room-g;
   room-m = rw length-set (S .room-m);
+  room-l = S .room-l;
   small = λ v k e. go v k e (ℕ-discrete v w);
 }
   where
@@ -100,10 +117,11 @@ blank-made k room = record {
 }
 
 -- no vertex is open
-pub listed-empty : {width height gx gy : ℕ} {g m leads keys : List ℕ} → (width + 1) * (height + 1) ≤ length g → (width + 1) * (height + 1) ≤ length m
-    → ((v : ℕ) → v < (width + 1) * (height + 1) → at m v ≡ 0) → Blank width height leads keys → Listed width height gx gy g m leads keys
-listed-empty {m = m} rg rm shut B = record {
-  small = record { room-g = rg; room-m = rm; small = λ v l o. absurd (omega (arith, shut v l)) };
+pub listed-empty : {width height gx gy : ℕ} {g m l leads keys : List ℕ} → (width + 1) * (height + 1) ≤ length g → (width + 1) * (height + 1) ≤ length m
+    → (width + 1) * (height + 1) ≤ length l → ((v : ℕ) → v < (width + 1) * (height + 1) → at m v ≡ 0) → Blank width height leads keys
+    → Listed width height gx gy g m l leads keys
+listed-empty {m = m} rg rm rl shut B = record {
+  small = record { room-g = rg; room-m = rm; room-l = rl; small = λ v l o. absurd (omega (arith, shut v l)) };
   seated = record { on = λ i. rw (B .lead i) (omega arith) };
   played = tournament-none (λ v l. ne-eqb (at m v) 1 (λ o. omega (arith, shut v l))) (B .room-l) (B .room-k) (B .key);
 }
@@ -111,42 +129,46 @@ listed-empty {m = m} rg rm shut B = record {
 module _ {width height x y gx gy : ℕ} (D : Sited width height x y gx gy) where
   -- ---- it changes
 
-  -- the vertex v at (x, y) opens, or its g falls to `own`
-  pub listed-opened : {v own f : ℕ} {g m leads keys leads′ keys′ : List ℕ} → Lower width x y v own g m → Listed width height gx gy g m leads keys
-      → f ≡ units (step x gx) (step y gy) → Entered (seen g) (numbers g) (leafAt width height x y) (ranked (own + f) own v) leads keys leads′ keys′
-      → Opens width height gx gy v own g m (set g v own) (set m v 1) leads′ keys′
-  listed-opened {v} {own} {f} {g} {m} {leads} {keys} {leads′} {keys′} W K e E = record {
+  -- the vertex v at (x, y) opens, or gets a better g or the same with fewer legs
+  pub listed-opened : {v own count f : ℕ} {g m l leads keys leads′ keys′ : List ℕ} → Lower width x y v own count g m l
+      → Listed width height gx gy g m l leads keys → f ≡ units (step x gx) (step y gy)
+      → Entered (seen g l) (numbers g l) (leafAt width height x y) (ranked (own + f) own count v) leads keys leads′ keys′
+      → Opens width height gx gy v own count g m l (set g v own) (set m v 1) (set l v count) leads′ keys′
+  listed-opened {v} {own} {count} {f} {g} {m} {l} {leads} {keys} {leads′} {keys′} W K e E = record {
     g-is = refl;
+    legs-is = refl;
     mark-is = refl;
     listed = record {
       small = small;
-      seated = record { on = λ i. rw length-set (E .seated .on i) };
-      played = entered .kept (groupsOf width height) (boardContest width height gx gy g m) (boardContest width height gx gy (set g v own) (set m v 1))
-          (record { fair = contest-fair D (K .small); shown = contest-shown width height gx gy g m; planted = planted width height; played = K .played })
-          (contest-fair D small) (rw (W .is) (leaf-number width height x y (D .column))) (contest-opened width height gx gy v g m own on (K .small) (W .less));
+      seated = record { on = λ i. simp length-set (E .seated .on i) };
+      played = entered .kept (groupsOf width height) (boardContest width height gx gy g m l)
+          (boardContest width height gx gy (set g v own) (set m v 1) (set l v count))
+          (record { fair = contest-fair D (K .small); shown = contest-shown width height gx gy g m l; planted = planted width height; played = K .played })
+          (contest-fair D small) (rw (W .is) (leaf-number width height x y (D .column)))
+          (contest-opened width height gx gy v g m l own count on (K .small) (W .less));
     };
   }
     where
       on : v < (width + 1) * (height + 1)
       on = rw (W .is) (number-below width height x y (D .column) (D .row))
 
-      entered : Entered (seen g) (numbers g) (leafAt width height x y) (ranked (own + toGoal width gx gy v) own v) leads keys leads′ keys′
+      entered : Entered (seen g l) (numbers g l) (leafAt width height x y) (ranked (own + toGoal width gx gy v) own count v) leads keys leads′ keys′
       entered = rw (e ∙ sym (to-goal width gx gy x y (D .column)), ← (W .is)) at E
 
-      small : Small ((width + 1) * (height + 1)) (set g v own) (set m v 1)
-      small = small-opened own on (W .small) (K .small)
+      small : Small ((width + 1) * (height + 1)) (set g v own) (set m v 1) (set l v count)
+      small = small-opened own count on (W .small) (K .small)
 
   -- the vertex v at (x, y) is expanded: its group is looked through, and its leaf gets the leader
-  pub listed-closed : {v r k : ℕ} {g m leads keys leads′ keys′ : List ℕ} → v ≡ numberOf width x y → Listed width height gx gy g m leads keys
-      → Looked width height x y gx gy g (set m v 2) r k → Renewed (seen g) (numbers g) (leafAt width height x y) r k leads keys leads′ keys′
-      → Closes width height gx gy v g m (set m v 2) leads′ keys′
-  listed-closed {v} {g = g} {m = m} e K L R = record {
+  pub listed-closed : {v r k : ℕ} {g m l leads keys leads′ keys′ : List ℕ} → v ≡ numberOf width x y → Listed width height gx gy g m l leads keys
+      → Looked width height x y gx gy g (set m v 2) l r k → Renewed (seen g l) (numbers g l) (leafAt width height x y) r k leads keys leads′ keys′
+      → Closes width height gx gy v g m l (set m v 2) leads′ keys′
+  listed-closed {v} {g = g} {m = m} {l = l} e K L R = record {
     mark-is = refl;
     listed = record {
       small = small;
       seated = R .seated;
-      played = R .kept (groupsOf width height) (boardContest width height gx gy g m) (boardContest width height gx gy g (set m v 2)) v (contest-fair D small)
-          (contest-shown width height gx gy g (set m v 2)) (planted width height) (contest-closed width height gx gy v g m) on
+      played = R .kept (groupsOf width height) (boardContest width height gx gy g m l) (boardContest width height gx gy g (set m v 2) l) v (contest-fair D small)
+          (contest-shown width height gx gy g (set m v 2) l) (planted width height) (contest-closed width height gx gy v g m l) on
           (rw e (leaf-number width height x y (D .column))) (K .played) (L .leads);
     };
   }
@@ -154,23 +176,23 @@ module _ {width height x y gx gy : ℕ} (D : Sited width height x y gx gy) where
       on : v < (width + 1) * (height + 1)
       on = rw e (number-below width height x y (D .column) (D .row))
 
-      small : Small ((width + 1) * (height + 1)) g (set m v 2)
+      small : Small ((width + 1) * (height + 1)) g (set m v 2) l
       small = small-closed on (K .small)
 
   -- ---- its first
 
   -- it is the least, and there is none exactly if its key says so
-  module _ {g m leads keys : List ℕ} (K : Listed width height gx gy g m leads keys) where
-    pub listed-least : at keys 1 ≢ noKey → at leads 1 ≡ least (boardContest width height gx gy g m) ((width + 1) * (height + 1))
+  module _ {g m l leads keys : List ℕ} (K : Listed width height gx gy g m l leads keys) where
+    pub listed-least : at keys 1 ≢ noKey → at leads 1 ≡ least (boardContest width height gx gy g m l) ((width + 1) * (height + 1))
     listed-least = root-least (contest-fair D (K .small)) (planted width height) (leaves-positive width height) (K .played)
 
     pub listed-on : at keys 1 ≢ noKey → at leads 1 < (width + 1) * (height + 1)
     listed-on = root-on (contest-fair D (K .small)) (planted width height) (leaves-positive width height) (K .played)
 
-    pub listed-none : at keys 1 ≡ noKey → least (boardContest width height gx gy g m) ((width + 1) * (height + 1)) ≡ (width + 1) * (height + 1)
+    pub listed-none : at keys 1 ≡ noKey → least (boardContest width height gx gy g m l) ((width + 1) * (height + 1)) ≡ (width + 1) * (height + 1)
     listed-none = root-none (contest-fair D (K .small)) (planted width height) (leaves-positive width height) (K .played)
 
 -- no stale key: where a node has a leader, its key is that vertex's f as it is now
-pub no-stale-key : {width height gx gy : ℕ} {g m leads keys : List ℕ} → Listed width height gx gy g m leads keys → (i : ℕ) → 0 < i
+pub no-stale-key : {width height gx gy : ℕ} {g m l leads keys : List ℕ} → Listed width height gx gy g m l leads keys → (i : ℕ) → 0 < i
     → i < nodesOf width height → at keys i ≢ noKey → at keys i ≡ at g (at leads i) + toGoal width gx gy (at leads i)
 no-stale-key K i p l d = key-now (K .played) i p l d

@@ -27,8 +27,8 @@ use Rattle.open.proofs.Grouping.{leaf-strip, strip-leaf, strip-on}
 
 -- ---- the contest
 
-pub contest-shown : (width height gx gy : ℕ) (g m : List ℕ) → Shown (boardContest width height gx gy g m) (seen g)
-contest-shown width height gx gy g m = record { key = λ v k. refl; own = λ v l. refl }
+pub contest-shown : (width height gx gy : ℕ) (g m l : List ℕ) → Shown (boardContest width height gx gy g m l) (seen g l)
+contest-shown width height gx gy g m l = record { key = λ v k. refl; own = λ v l. refl }
 
 -- no leg is long
 pub units-small : (ax ay bx by : ℕ) → ax ≤ largestSide → ay ≤ largestSide → bx ≤ largestSide → by ≤ largestSide → units (step ax bx) (step ay by) < 2 ^ 62
@@ -48,18 +48,18 @@ module _ {width height x y gx gy : ℕ} (D : Sited width height x y gx gy) where
       (omega (arith, row-on width height v l, D .low)) (omega (arith, D .goal-x, D .narrow)) (omega (arith, D .goal-y, D .low))
 
   -- an open vertex's f is a key
-  pub contest-fair : {g m : List ℕ} → Small ((width + 1) * (height + 1)) g m → WellRanked (boardContest width height gx gy g m)
-  contest-fair {g} {m} S = record {
+  pub contest-fair : {g m l : List ℕ} → Small ((width + 1) * (height + 1)) g m l → WellRanked (boardContest width height gx gy g m l)
+  contest-fair {g} {m} {l} S = record {
     numbered = λ v. refl;
-    keyed = λ v l o. omega (arith, goal-small v l, S .small v l (eqb-true (at m v) 1 o));
+    keyed = λ v k o. omega (arith, goal-small v k, S .small v k (eqb-true (at m v) 1 o));
   }
 
-  -- there are few vertices, and each has its entry in g
+  -- there are few vertices, and each has its entries in g and legs
   pub vertices-most : (width + 1) * (height + 1) ≤ mostVertices
   vertices-most = vertices-few width height (D .narrow) (D .low)
 
-  pub numbers-most : {g m : List ℕ} → Small ((width + 1) * (height + 1)) g m → (width + 1) * (height + 1) ≤ numbers g
-  numbers-most S = omega (arith, S .room-g, vertices-most)
+  pub numbers-most : {g m l : List ℕ} → Small ((width + 1) * (height + 1)) g m l → (width + 1) * (height + 1) ≤ numbers g l
+  numbers-most S = omega (arith, S .room-g, S .room-l, vertices-most)
 
   -- the group is a strip of the board
   pub group-filled : groupStart x < groupEnd width x
@@ -71,22 +71,22 @@ module _ {width height x y gx gy : ℕ} (D : Sited width height x y gx gy) where
 -- ---- the look
 
 -- r leads the columns of the group up to c, with the key k
-pub record Looking (width height x y gx gy : ℕ) (g m : List ℕ) (c r k : ℕ) : Type 0 where
+pub record Looking (width height x y gx gy : ℕ) (g m l : List ℕ) (c r k : ℕ) : Type 0 where
   pub on : r < (width + 1) * (height + 1)
-  pub leads : Leads (boardContest width height gx gy g m) (Between (y * (width + 1) + groupStart x) (y * (width + 1) + c)) r k
+  pub leads : Leads (boardContest width height gx gy g m l) (Between (y * (width + 1) + groupStart x) (y * (width + 1) + c)) r k
 
-module _ {width height x y gx gy : ℕ} (D : Sited width height x y gx gy) {g m : List ℕ} (S : Small ((width + 1) * (height + 1)) g m) where
-  pub looking-start : Looking width height x y gx gy g m (groupStart x) (y * (width + 1) + groupStart x) noKey
+module _ {width height x y gx gy : ℕ} (D : Sited width height x y gx gy) {g m l : List ℕ} (S : Small ((width + 1) * (height + 1)) g m l) where
+  pub looking-start : Looking width height x y gx gy g m l (groupStart x) (y * (width + 1) + groupStart x) noKey
   looking-start = record {
     on = column-below D (groupStart x) (group-filled D) .1;
-    leads = scan-none (boardContest width height gx gy g m) (y * (width + 1) + groupStart x) (y * (width + 1) + groupStart x);
+    leads = scan-none (boardContest width height gx gy g m l) (y * (width + 1) + groupStart x) (y * (width + 1) + groupStart x);
   }
 
-  module _ {c r k : ℕ} (L : Looking width height x y gx gy g m c r k) (past : groupStart x ≤ c) (inside : c < groupEnd width x) where
+  module _ {c r k : ℕ} (L : Looking width height x y gx gy g m l c r k) (past : groupStart x ≤ c) (inside : c < groupEnd width x) where
     further : y * (width + 1) + (c + 1) ≡ y * (width + 1) + c + 1
     further = omega arith
 
-    pub looking-closed : at m (y * (width + 1) + c) ≢ 1 → Looking width height x y gx gy g m (c + 1) r k
+    pub looking-closed : at m (y * (width + 1) + c) ≢ 1 → Looking width height x y gx gy g m l (c + 1) r k
     looking-closed d = record {
       on = L .on;
       leads = rw further (scan-closed (ne-eqb (at m (y * (width + 1) + c)) 1 d) (L .leads));
@@ -94,13 +94,13 @@ module _ {width height x y gx gy : ℕ} (D : Sited width height x y gx gy) {g m 
 
     -- it is open, u is its leg to the goal, and b says whether it is ahead of the leader so far
     pub looking-open : (u : ℕ) → at m (y * (width + 1) + c) ≡ 1 → u ≡ units (step c gx) (step y gy) → {answer : Bool}
-        → answer ≡ sooner (ranked (at g (y * (width + 1) + c) + u) (at g (y * (width + 1) + c)) (y * (width + 1) + c)) (seen g r k)
+        → answer ≡ sooner (ranked (at g (y * (width + 1) + c) + u) (at g (y * (width + 1) + c)) (at l (y * (width + 1) + c)) (y * (width + 1) + c)) (seen g l r k)
         → (b : Bool) → answer ≡ b
-        → Looking width height x y gx gy g m (c + 1) (cond b (y * (width + 1) + c) r) (cond b (at g (y * (width + 1) + c) + u) k)
+        → Looking width height x y gx gy g m l (c + 1) (cond b (y * (width + 1) + c) r) (cond b (at g (y * (width + 1) + c) + u) k)
     looking-open u o e s b t = record {
       on = on b;
       leads = rw further
-          (scan-open (contest-fair D S) (contest-shown width height gx gy g m) (omega arith) (column-below D c inside .1)
+          (scan-open (contest-fair D S) (contest-shown width height gx gy g m l) (omega arith) (column-below D c inside .1)
           (eq-eqb (at m (y * (width + 1) + c)) 1 o) (at g (y * (width + 1) + c) + u)
           (ap (λ (z : ℕ). at g (y * (width + 1) + c) + z) (e ∙ sym (to-goal width gx gy c y (column-below D c inside .0)))) (L .leads) b (sym s ∙ t));
     }
@@ -109,7 +109,7 @@ module _ {width height x y gx gy : ℕ} (D : Sited width height x y gx gy) {g m 
         on true = column-below D c inside .1
         on false = L .on
 
-  pub looked : {c r k : ℕ} → Looking width height x y gx gy g m c r k → c ≡ groupEnd width x → Looked width height x y gx gy g m r k
+  pub looked : {c r k : ℕ} → Looking width height x y gx gy g m l c r k → c ≡ groupEnd width x → Looked width height x y gx gy g m l r k
   looked L e = record {
     on = L .on;
     leads = leads-part (λ v o t. strip-leaf width height x y (D .column) (D .row) v (rw e at t))

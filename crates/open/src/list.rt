@@ -45,12 +45,13 @@ fn look(
     gy: usize,
     g: &[u64],
     marks: &[u8],
+    legs: &[Vertex],
     table: &[u32],
 ) -> Leader
     requires { ⌜ Sited width height x y gx gy ⌝ }
-    requires { ⌜ Small ((width + 1) * (height + 1)) (now g) (now marks) ⌝ }
+    requires { ⌜ Small ((width + 1) * (height + 1)) (now g) (now marks) (now legs) ⌝ }
     requires { ⌜ Known (width * width + height * height) (now table) ⌝ }
-    ensures { λ r. ⌜ Looked width height x y gx gy (now (g .entry)) (now (marks .entry)) (r .vertex) (r .f) ⌝ }
+    ensures { λ r. ⌜ Looked width height x y gx gy (now (g .entry)) (now (marks .entry)) (now (legs .entry)) (r .vertex) (r .f) ⌝ }
 {
     let row = y * (width + 1);
     let end = group_end(width, x);
@@ -62,7 +63,7 @@ fn look(
         if marks[v] == 1 {
             let own = g[v];
             let f = own + units_between(column, y, gx, gy, table);
-            if ahead(f, own, v, key, first, g) {
+            if ahead(f, own, legs[v], v, key, first, g, legs) {
                 first = v;
                 key = f;
             }
@@ -75,7 +76,7 @@ fn look(
     }
 }
 
-// The vertex v at (x, y) opens with the g `own`, or is open and its g falls to that.
+// The vertex v at (x, y) opens with the g `own` and so many legs, or is open and these are better than what it has.
 pub fn open_vertex(
     width: usize,
     height: usize,
@@ -85,21 +86,34 @@ pub fn open_vertex(
     gy: usize,
     v: usize,
     own: u64,
+    count: Vertex,
     g: &mut [u64],
     marks: &mut [u8],
+    legs: &mut [Vertex],
     leads: &mut [Vertex],
     keys: &mut [u64],
     table: &[u32],
 )
     requires { ⌜ Sited width height x y gx gy ⌝ }
-    requires { ⌜ Lower width x y v own (now g) (now marks) ⌝ }
-    requires { ⌜ Listed width height gx gy (now g) (now marks) (now leads) (now keys) ⌝ }
+    requires { ⌜ Lower width x y v own count (now g) (now marks) (now legs) ⌝ }
+    requires { ⌜ Listed width height gx gy (now g) (now marks) (now legs) (now leads) (now keys) ⌝ }
     requires { ⌜ Known (width * width + height * height) (now table) ⌝ }
-    ensures { λ r. ⌜ Opens width height gx gy v own (now (g .entry)) (now (marks .entry)) (now (g .exit)) (now (marks .exit)) (now (leads .exit)) (now (keys .exit)) ⌝ }
+    ensures { λ r. ⌜ Opens width height gx gy v own count (now (g .entry)) (now (marks .entry)) (now (legs .entry)) (now (g .exit)) (now (marks .exit)) (now (legs .exit)) (now (leads .exit)) (now (keys .exit)) ⌝ }
 {
     let f = own + units_between(x, y, gx, gy, table);
-    enter(leaf(width, height, x, y), v, own, f, g, leads, keys);
+    enter(
+        leaf(width, height, x, y),
+        v,
+        own,
+        count,
+        f,
+        g,
+        legs,
+        leads,
+        keys,
+    );
     g[v] = own;
+    legs[v] = count;
     marks[v] = 1;
 }
 
@@ -114,17 +128,18 @@ pub fn close_vertex(
     v: usize,
     g: &[u64],
     marks: &mut [u8],
+    legs: &[Vertex],
     leads: &mut [Vertex],
     keys: &mut [u64],
     table: &[u32],
 )
     requires { ⌜ Sited width height x y gx gy ⌝ }
     requires { ⌜ v ≡ numberOf width x y ⌝ }
-    requires { ⌜ Listed width height gx gy (now g) (now marks) (now leads) (now keys) ⌝ }
+    requires { ⌜ Listed width height gx gy (now g) (now marks) (now legs) (now leads) (now keys) ⌝ }
     requires { ⌜ Known (width * width + height * height) (now table) ⌝ }
-    ensures { λ r. ⌜ Closes width height gx gy v (now (g .entry)) (now (marks .entry)) (now (marks .exit)) (now (leads .exit)) (now (keys .exit)) ⌝ }
+    ensures { λ r. ⌜ Closes width height gx gy v (now (g .entry)) (now (marks .entry)) (now (legs .entry)) (now (marks .exit)) (now (leads .exit)) (now (keys .exit)) ⌝ }
 {
     marks[v] = 2;
-    let leader = look(width, height, x, y, gx, gy, g, marks, table);
-    renew(leaf(width, height, x, y), leader, g, leads, keys);
+    let leader = look(width, height, x, y, gx, gy, g, marks, legs, table);
+    renew(leaf(width, height, x, y), leader, g, legs, leads, keys);
 }

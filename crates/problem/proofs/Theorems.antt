@@ -13,13 +13,14 @@ use Rattle.legs.specs.Pinched.{pinched}
 use Rattle.legs.specs.Neighbours.{visible}
 use Rattle.legs.proofs.Seen.{inside-unpinched}
 use Rattle.theta.specs.Search.{State, search, trail, path}
-use Rattle.theta.specs.Demands.{IsRoute, Work}
+use Rattle.theta.specs.Demands.{IsRoute, Work, LegsCounted}
 use Rattle.theta.specs.Lent.{Searched}
 use Rattle.theta.specs.Back.{Traced}
 use Rattle.theta.proofs.Completeness.{search-complete, search-tested}
 use Rattle.theta.proofs.Tidy.{search-work}
-use Rattle.theta.proofs.Routes.{search-route, search-between}
-use Rattle.theta.proofs.Found.{lent-traced, lent-path, lent-units, lent-bound}
+use Rattle.theta.proofs.Held.{search-legs, search-parents}
+use Rattle.theta.proofs.Routes.{search-route, search-vertices, search-between}
+use Rattle.theta.proofs.Found.{lent-traced, lent-path, lent-units, lent-bound, lent-legs}
 use Rattle.problem.specs.Problem.{problem, Unpinched, RoundedDown}
 use Rattle.problem.proofs.Sizes.{largest-exact}
 use Rattle.problem.proofs.Fair.{board-fair, board-legs}
@@ -45,6 +46,15 @@ module _ (b : Board) (sx sy gx gy : ℕ) (S : OnBoard b sx sy) where
   pub board-work : Work (problem b sx sy gx gy) ((search (problem b sx sy gx gy)) .state)
   board-work = search-work (board-fair b sx sy gx gy S)
 
+  -- the legs are counted from the start
+  pub board-counted : LegsCounted (problem b sx sy gx gy) ((search (problem b sx sy gx gy)) .state)
+  board-counted = search-legs (board-fair b sx sy gx gy S) (board-legs b sx sy gx gy)
+
+  -- every parent is a vertex
+  pub board-parents : (v : ℕ) → v < vertices b → at ((search (problem b sx sy gx gy)) .state .parent) v < vertices b
+  unfolding problem
+  board-parents = search-parents (board-fair b sx sy gx gy S) (board-legs b sx sy gx gy)
+
   module _ (f : (search (problem b sx sy gx gy)) .found ≡ true) where
     -- a path that is found is a route, as long as the goal's g
     pub board-route : IsRoute (problem b sx sy gx gy) (path (problem b sx sy gx gy) ((search (problem b sx sy gx gy)) .state))
@@ -58,6 +68,12 @@ module _ (b : Board) (sx sy gx gy : ℕ) (S : OnBoard b sx sy) where
     unfolding problem
     board-measured =
         rw (board-route .total) (path-rounded b sx sy gx gy (path (problem b sx sy gx gy) ((search (problem b sx sy gx gy)) .state)))
+
+    -- it has one vertex more than the goal has legs
+    pub board-vertices : length (path (problem b sx sy gx gy) ((search (problem b sx sy gx gy)) .state))
+        ≡ at ((search (problem b sx sy gx gy)) .state .legs) (number b gx gy) + 1
+    unfolding problem
+    board-vertices = search-vertices (board-fair b sx sy gx gy S) (board-legs b sx sy gx gy) f
 
     -- and it squeezes through no pinched vertex
     pub board-unpinched : Unpinched b (path (problem b sx sy gx gy) ((search (problem b sx sy gx gy)) .state))
@@ -93,7 +109,12 @@ module _ {b : Board} {sx sy : ℕ} (S : OnBoard b sx sy) (gx gy : ℕ) {before a
   unfolding problem
   found-units = lent-units (board-fair b sx sy gx gy S) (board-legs b sx sy gx gy) F
 
-  -- and an f64 holds them
+  -- and so do its legs
+  pub found-legs : at (after .legs) (number b gx gy) ≡ at ((search (problem b sx sy gx gy)) .state .legs) (number b gx gy)
+  unfolding problem
+  found-legs = lent-legs (board-fair b sx sy gx gy S) (board-legs b sx sy gx gy) F
+
+  -- an f64 holds the units
   pub found-exact : Sound b → at (after .g) (number b gx gy) < 2 ^ 53
   unfolding problem
   found-exact B = omega (

@@ -30,14 +30,14 @@ abbrev nowhere : Problem → List ℕ
 nowhere p = drop (p .size) []
 
 left-by : (p : Problem) → search p .found ≡ true → let s = search p .state in
-    Searched p (state [] [] [] 0 0)
-    (state (s .g ++ nowhere p) (s .parent ++ nowhere p) (s .mark ++ nowhere p) (s .expansions) (s .tests)) true
-left-by p f = record { found-is = sym f; expansions-is = refl; tests-is = refl; g-is = refl; parent-is = refl; mark-is = refl }
+    Searched p (state [] [] [] [] 0 0)
+    (state (s .g ++ nowhere p) (s .parent ++ nowhere p) (s .mark ++ nowhere p) (s .legs ++ nowhere p) (s .expansions) (s .tests)) true
+left-by p f = record { found-is = sym f; expansions-is = refl; tests-is = refl; g-is = refl; parent-is = refl; mark-is = refl; legs-is = refl }
 
 -- what is handed back is a path or none
 module _ (p : Problem) where
   pub result-found : search p .found ≡ true → let s = search p .state in
-      result p ≡ found (at (s .g) (p .goal)) (length (pathOf p)) (s .expansions) (s .tests)
+      result p ≡ found (at (s .g) (p .goal)) (length (pathOf p)) (at (s .legs) (p .goal)) (s .expansions) (s .tests)
   result-found f = rw f
 
   pub result-none : search p .found ≡ false → result p ≡ none (search p .state .expansions) (search p .state .tests)
@@ -71,7 +71,7 @@ module _ (b : Board) (sx sy gx gy : ℕ) (legs : legRows b sx sy gx gy ≡ passe
         (bool-cases (search p .found))
 
   module _ (before : Slices) (g : vertexRoom ≤ length (before .g)) (parents : vertexRoom ≤ length (before .parents))
-      (marks : vertexRoom ≤ length (before .marks)) (path : vertexRoom ≤ length (before .path)) where
+      (marks : vertexRoom ≤ length (before .marks)) (bends : vertexRoom ≤ length (before .legs)) (path : vertexRoom ≤ length (before .path)) where
     fits : vertices b ≤ vertexRoom
     fits = let s = leg-sound b sx sy gx gy legs in vertices-fit b (s .narrow) (s .low)
 
@@ -82,7 +82,8 @@ module _ (b : Board) (sx sy gx gy : ℕ) (legs : legRows b sx sy gx gy ≡ passe
         let a = le-ltb (length (before .g)) n (omega (arith, fits)) in
         let c = le-ltb (length (before .parents)) n (omega (arith, fits)) in
         let d = le-ltb (length (before .marks)) n (omega (arith, fits)) in
-        rw (legs, a, c, d) (row-result (length (before .path)) (omega (arith, fits)))
+        let e = le-ltb (length (before .legs)) n (omega (arith, fits)) in
+        rw (legs, a, c, d, e) (row-result (length (before .path)) (omega (arith, fits)))
 
     pub found-given : {after : Slices} {h : Handed Route} → Routed b sx sy gx gy before after h
         → Found b sx sy gx gy h (after .path)

@@ -37,7 +37,7 @@ pathOf p = path p (search p .state)
 abbrev pub result : Problem → Handed Route
 result p =
     let s = search p .state in
-    cond (search p .found) (found (at (s .g) (p .goal)) (length (pathOf p)) (s .expansions) (s .tests))
+    cond (search p .found) (found (at (s .g) (p .goal)) (length (pathOf p)) (at (s .legs) (p .goal)) (s .expansions) (s .tests))
     (none (s .expansions) (s .tests))
 
 -- that is handed back, and the path stands at the front of the slice

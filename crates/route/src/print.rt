@@ -18,10 +18,10 @@ use job::NetAnswer;
 use job::inner::net_at;
 use lines::Line;
 use lines::inner::refusal_line;
-use writing::write_line;
 use refusals::JobRefusal;
 use router::Answer;
 use router::route;
+use writing::write_line;
 
 // How many lines were sent, and whether the next one was lost.
 pub struct Sent {
@@ -102,6 +102,7 @@ fn search_net(
     let mut g = [0u64; VERTICES];
     let mut parents = [0 as Vertex; VERTICES];
     let mut marks = [0u8; VERTICES];
+    let mut legs = [0 as Vertex; VERTICES];
     route(
         cells,
         width,
@@ -113,6 +114,7 @@ fn search_net(
         &mut g,
         &mut parents,
         &mut marks,
+        &mut legs,
         path,
     )
 }
@@ -135,6 +137,7 @@ fn print_answer(
             cells: _,
             units,
             vertices,
+            legs: _,
             expansions,
             tests,
         } => {

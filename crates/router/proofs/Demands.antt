@@ -22,6 +22,7 @@ use Rattle.problem.proofs.Theorems.{
   board-complete,
   board-tested,
   board-route,
+  board-vertices,
   board-measured,
   board-unpinched,
   found-units,
@@ -38,7 +39,9 @@ passed (refused n p s) rest q e = absurd (false≢true (sym (not-true (searched 
 
 module _ (b : Board) (sx sy gx gy : ℕ) (lent : Slices) (e : searched (routeRow b sx sy gx gy lent .number) ≡ true) where
   abbrev short : Bool
-  short = ltb (length (lent .g)) (vertices b) || (ltb (length (lent .parents)) (vertices b) || ltb (length (lent .marks)) (vertices b))
+  short =
+      ltb (length (lent .g)) (vertices b)
+      || (ltb (length (lent .parents)) (vertices b) || (ltb (length (lent .marks)) (vertices b) || ltb (length (lent .legs)) (vertices b)))
 
   abbrev quiet : ℕ → Bool
   quiet n = not (searched n)
@@ -70,7 +73,8 @@ abbrev pub count : Problem → ℕ
 count p = length (path p (search p .state))
 
 abbrev pub success : Problem → Handed Route
-success p = found (at (search p .state .g) (p .goal)) (count p) (search p .state .expansions) (search p .state .tests)
+success p =
+    found (at (search p .state .g) (p .goal)) (count p) (at (search p .state .legs) (p .goal)) (search p .state .expansions) (search p .state .tests)
 
 abbrev pub failure : Problem → Handed Route
 failure p = none (search p .state .expansions) (search p .state .tests)
@@ -109,8 +113,10 @@ module _ (p : Problem) (lent : ℕ) where
 -- what the search leaves in slices of no length, to speak of a search that found a path
 left-by : (p : Problem) → search p .found ≡ true
     → let s = search p .state in
-    Searched p (state [] [] [] 0 0) (state (s .g ++ drop (p .size) []) (s .parent ++ drop (p .size) []) (s .mark ++ drop (p .size) []) (s .expansions) (s .tests)) true
-left-by p f = record { found-is = sym f; expansions-is = refl; tests-is = refl; g-is = refl; parent-is = refl; mark-is = refl }
+    Searched p (state [] [] [] [] 0 0)
+    (state (s .g ++ drop (p .size) []) (s .parent ++ drop (p .size) []) (s .mark ++ drop (p .size) []) (s .legs ++ drop (p .size) []) (s .expansions)
+    (s .tests)) true
+left-by p f = record { found-is = sym f; expansions-is = refl; tests-is = refl; g-is = refl; parent-is = refl; mark-is = refl; legs-is = refl }
 
 -- ---- the demands
 
@@ -165,6 +171,7 @@ module _ (b : Board) (sx sy gx gy : ℕ) (lent : Slices) where
         route = rw front (board-route b sx sy gx gy (z .0) (z .1));
         rounded = rw front (board-measured b sx sy gx gy (z .0) (z .1));
         cells = cells-exact (at (search p .state .g) (number b gx gy)) (zero-units e);
+        legs = sym (board-vertices b sx sy gx gy (z .0) (z .1));
       })
 
   -- the path in the path slice squeezes through no pinched vertex

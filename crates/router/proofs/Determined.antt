@@ -17,14 +17,14 @@ use Rattle.router.specs.Answers.{Route, handedRoute, Slices, slicesAfter
 answerOf : Handed Route → Answer
 answerOf h =
     let v = h .values in
-    cond (eqb (h .number) 0) (Found (v .cells) (v .units) (v .vertices) (v .expansions) (v .tests))
+    cond (eqb (h .number) 0) (Found (v .cells) (v .units) (v .vertices) (v .legs) (v .expansions) (v .tests))
     (cond (eqb (h .number) 6) Work
     (cond (eqb (h .number) 7) (Short (h .place))
     (cond (eqb (h .number) 8) (NoPath (v .expansions) (v .tests)) (Refused (refusalOf (h .number) (h .place))))))
 
 back : (r : Answer) → answerOf (handedRoute r) ≡ r
 unfolding answerOf
-back (Found c u v e t) = refl
+back (Found c u v l e t) = refl
 back (NoPath e t) = refl
 back (Refused Side) = refl
 back (Refused Count) = refl

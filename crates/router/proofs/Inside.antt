@@ -11,15 +11,15 @@ use Rattle.length.specs.Floats.{inCells}
 use Rattle.router.specs.Answers.{noRoute}
 use Rattle.router.specs.Inside.{PathGiven, pathOf}
 
-module _ (start goal units expansions tests : ℕ) (parents path : List ℕ) (k : ℕ) (e : k ≡ length (pathOf start goal parents)) where
-  pub path-short : length path < k → PathGiven start goal units expansions tests parents path path (judged noRoute (refused 7 k 0))
+module _ (start goal units legs expansions tests : ℕ) (parents path : List ℕ) (k : ℕ) (e : k ≡ length (pathOf start goal parents)) where
+  pub path-short : length path < k → PathGiven start goal units legs expansions tests parents path path (judged noRoute (refused 7 k 0))
   path-short l =
       let t = lt-ltb (length path) (length (pathOf start goal parents)) (omega arith) in
       record { row-is = rw (t, e); path-is = rw t }
 
   pub path-given : (path′ : List ℕ) (cells : Float) → k ≤ length path → path′ ≡ pathOf start goal parents ++ drop k path → cells ≡ inCells units
-      → PathGiven start goal units expansions tests parents path path′
-      (answer (record { cells = cells; units = units; vertices = k; expansions = expansions; tests = tests }))
+      → PathGiven start goal units legs expansions tests parents path path′
+      (answer (record { cells = cells; units = units; vertices = k; legs = legs; expansions = expansions; tests = tests }))
   path-given path′ cells l w f =
       let t = le-ltb (length path) (length (pathOf start goal parents)) (omega arith) in
       record { row-is = rw (t, e, f); path-is = rw t (w ∙ ap (λ (n : ℕ). pathOf start goal parents ++ drop n path) e) }

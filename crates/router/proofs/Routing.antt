@@ -33,7 +33,7 @@ searched-row p lent = go (search p .found) (ltb lent (length (path p (search p .
     go : (f l : Bool)
         → let s = search p .state in
         let n = length (path p s) in
-        searched (cond f (unless noRoute (row l 7 n) (found (at (s .g) (p .goal)) n (s .expansions) (s .tests))) (none (s .expansions) (s .tests)) .number) ≡ true
+        searched (cond f (unless noRoute (row l 7 n) (found (at (s .g) (p .goal)) n (at (s .legs) (p .goal)) (s .expansions) (s .tests))) (none (s .expansions) (s .tests)) .number) ≡ true
     go true true = refl
     go true false = refl
     go false l = refl
@@ -53,27 +53,35 @@ module _ {p : Problem} (W : Work p (search p .state)) {before after : State} {f 
   marks-is : after .mark ≡ written true (search p .state .mark) (before .mark)
   marks-is = S .mark-is ∙ ap (λ (n : ℕ). search p .state .mark ++ drop n (before .mark)) (sym (W .mark-size))
 
+  legs-is : after .legs ≡ written true (search p .state .legs) (before .legs)
+  legs-is = S .legs-is ∙ ap (λ (n : ℕ). search p .state .legs ++ drop n (before .legs)) (sym (W .legs-size))
+
   -- with the path slice as the number says, the slices are as the definition leaves them
   all-written : (number : ℕ) (path₀ : List ℕ) {path′ : List ℕ} → searched number ≡ true → path′ ≡ written (eqb number 0) (path p (search p .state)) path₀
-      → slices (after .g) (after .parent) (after .mark) path′ ≡ slicesAfter p number (slices (before .g) (before .parent) (before .mark) path₀)
-  all-written number path₀ y w = rw (y, g-is, parents-is, marks-is, w)
+      → slices (after .g) (after .parent) (after .mark) (after .legs) path′
+      ≡ slicesAfter p number (slices (before .g) (before .parent) (before .mark) (before .legs) path₀)
+  all-written number path₀ y w = rw (y, g-is, parents-is, marks-is, legs-is, w)
 
   pub g-room : p .size ≤ length (after .g)
   g-room = rw (S .g-is, length-append) (omega (arith, W .g-size))
 
+  pub legs-room : p .size ≤ length (after .legs)
+  legs-room = rw (S .legs-is, length-append) (omega (arith, W .legs-size))
+
   pub ran-none : (path₀ : List ℕ) → f ≡ false
-      → Ran p (slices (before .g) (before .parent) (before .mark) path₀) (slices (after .g) (after .parent) (after .mark) path₀)
+      → Ran p (slices (before .g) (before .parent) (before .mark) (before .legs) path₀) (slices (after .g) (after .parent) (after .mark) (after .legs) path₀)
       (none (after .expansions) (after .tests))
   unfolding searchRow
   ran-none path₀ n = record { row-is = rw (S .expansions-is, S .tests-is, sym (S .found-is) ∙ n); after-is = all-written 8 path₀ refl refl }
 
-  pub ran-path : {start goal units : ℕ} {path₀ path′ : List ℕ} {h : Handed Route} → f ≡ true
-      → PathGiven start goal units (after .expansions) (after .tests) (after .parent) path₀ path′ h
+  pub ran-path : {start goal units legs : ℕ} {path₀ path′ : List ℕ} {h : Handed Route} → f ≡ true
+      → PathGiven start goal units legs (after .expansions) (after .tests) (after .parent) path₀ path′ h
       → pathOf start goal (after .parent) ≡ path p (search p .state) → units ≡ at (search p .state .g) (p .goal)
-      → Ran p (slices (before .g) (before .parent) (before .mark) path₀) (slices (after .g) (after .parent) (after .mark) path′) h
+      → legs ≡ at (search p .state .legs) (p .goal)
+      → Ran p (slices (before .g) (before .parent) (before .mark) (before .legs) path₀) (slices (after .g) (after .parent) (after .mark) (after .legs) path′) h
   unfolding searchRow
-  ran-path {units = units} {path₀ = path₀} {h = h} y T w u =
-      let r : h ≡ searchRow p (length path₀) = T .row-is ∙ rw (w, u, S .expansions-is, S .tests-is, sym (S .found-is) ∙ y) in
+  ran-path {units = units} {legs = legs} {path₀ = path₀} {h = h} y T w u l =
+      let r : h ≡ searchRow p (length path₀) = T .row-is ∙ rw (w, u, l, S .expansions-is, S .tests-is, sym (S .found-is) ∙ y) in
       record {
         row-is = r;
         after-is = all-written (h .number) path₀ (rw r (searched-row p (length path₀)))
@@ -82,18 +90,19 @@ module _ {p : Problem} (W : Work p (search p .state)) {before after : State} {f 
     where
       go : (l : Bool) →
           let q = path p (search p .state) in
-          written (not l) q path₀ ≡ written (eqb (unless noRoute (row l 7 (length q)) (found units (length q) (after .expansions) (after .tests)) .number) 0) q path₀
+          written (not l) q path₀ ≡ written (eqb (unless noRoute (row l 7 (length q)) (found units (length q) legs (after .expansions) (after .tests)) .number) 0) q path₀
       go true = refl
       go false = refl
 
 -- ---- the whole call
 
--- three lists with room for n entries
-pub rooms : (n x y z : ℕ) → (ltb x n || (ltb y n || ltb z n)) ≡ false → (n ≤ x) × (n ≤ y) × (n ≤ z)
-rooms n x y z e =
-    let (p, o) = or-neither (ltb x n) (ltb y n || ltb z n) e in
+-- four lists with room for n entries
+pub rooms : (n w x y z : ℕ) → (ltb w n || (ltb x n || (ltb y n || ltb z n))) ≡ false → (n ≤ w) × (n ≤ x) × (n ≤ y) × (n ≤ z)
+rooms n w x y z e =
+    let (m, k) = or-neither (ltb w n) (ltb x n || (ltb y n || ltb z n)) e in
+    let (p, o) = or-neither (ltb x n) (ltb y n || ltb z n) k in
     let (q, r) = or-neither (ltb y n) (ltb z n) o in
-    (ltb-false x n p, ltb-false y n q, ltb-false z n r)
+    (ltb-false w n m, ltb-false x n p, ltb-false y n q, ltb-false z n r)
 
 module _ (b : Board) (sx sy gx gy : ℕ) (before : Slices) where
   -- refused by a check: nothing is written
@@ -115,14 +124,14 @@ module _ (b : Board) (sx sy gx gy : ℕ) (before : Slices) where
   module _ (a : legRows b sx sy gx gy ≡ passes) where
     -- refused for a short work slice: nothing is written
     pub routed-short : let n = vertices b in
-        (ltb (length (before .g)) n || (ltb (length (before .parents)) n || ltb (length (before .marks)) n)) ≡ true
+        (ltb (length (before .g)) n || (ltb (length (before .parents)) n || (ltb (length (before .marks)) n || ltb (length (before .legs)) n))) ≡ true
         → Routed b sx sy gx gy before before (judged noRoute (refused 6 0 0))
     unfolding routeRow workRow
     routed-short s = record { row-is = rw (a, s); after-is = refl }
 
     -- searched
     pub routed-ran : (after : Slices) (h : Handed Route) → let n = vertices b in
-        (ltb (length (before .g)) n || (ltb (length (before .parents)) n || ltb (length (before .marks)) n)) ≡ false
+        (ltb (length (before .g)) n || (ltb (length (before .parents)) n || (ltb (length (before .marks)) n || ltb (length (before .legs)) n))) ≡ false
         → Ran (problem b sx sy gx gy) before after h → Routed b sx sy gx gy before after h
     unfolding routeRow workRow
     routed-ran after h s R = record { row-is = R .row-is ∙ rw (a, s); after-is = R .after-is }

@@ -17,21 +17,22 @@ use Rattle.router.specs.declared.Answer.the-variants.{Found, NoPath, Ref
 
 -- ---- what is handed back
 
--- the path's length in cells and in units, its vertices, and both counts
+-- the path's length in cells and in units, its vertices and legs, and both counts
 pub record Route : Type 0 where
   pub cells : Float
   pub units : ℕ
   pub vertices : ℕ
+  pub legs : ℕ
   pub expansions : ℕ
   pub tests : ℕ
 
 abbrev pub noRoute : Route
-noRoute = record { cells = plusZero; units = 0; vertices = 0; expansions = 0; tests = 0 }
+noRoute = record { cells = plusZero; units = 0; vertices = 0; legs = 0; expansions = 0; tests = 0 }
 
--- a path of that many units and vertices, with both counts
-abbrev pub found : (units vertices expansions tests : ℕ) → Handed Route
-found units vertices expansions tests =
-    answer (record { cells = inCells units; units = units; vertices = vertices; expansions = expansions; tests = tests })
+-- a path of that many units, vertices and legs, with both counts
+abbrev pub found : (units vertices legs expansions tests : ℕ) → Handed Route
+found units vertices legs expansions tests =
+    answer (record { cells = inCells units; units = units; vertices = vertices; legs = legs; expansions = expansions; tests = tests })
 
 -- no path: 8 is a result, with both counts
 abbrev pub none : (expansions tests : ℕ) → Handed Route
@@ -39,13 +40,13 @@ none expansions tests = record {
   number = 8;
   place = 0;
   second = 0;
-  values = record { cells = plusZero; units = 0; vertices = 0; expansions = expansions; tests = tests };
+  values = record { cells = plusZero; units = 0; vertices = 0; legs = 0; expansions = expansions; tests = tests };
 }
 
 -- number, places and values of each case
 abbrev pub handedRoute : Answer → Handed Route
-handedRoute (Found cells units vertices expansions tests) =
-    answer (record { cells = cells; units = units; vertices = vertices; expansions = expansions; tests = tests })
+handedRoute (Found cells units vertices legs expansions tests) =
+    answer (record { cells = cells; units = units; vertices = vertices; legs = legs; expansions = expansions; tests = tests })
 handedRoute (NoPath expansions tests) = none expansions tests
 handedRoute (Refused why) = judged noRoute (refusalRow why)
 handedRoute Work = judged noRoute (refused 6 0 0)
@@ -57,23 +58,25 @@ pub record Slices : Type 0 where
   pub g : List ℕ
   pub parents : List ℕ
   pub marks : List ℕ
+  pub legs : List ℕ
   pub path : List ℕ
 
-abbrev pub slices : (g parents marks path : List ℕ) → Slices
-slices g parents marks path = record { g = g; parents = parents; marks = marks; path = path }
+abbrev pub slices : (g parents marks legs path : List ℕ) → Slices
+slices g parents marks legs path = record { g = g; parents = parents; marks = marks; legs = legs; path = path }
 
 -- ---- which a request gets
 
 -- row 6: a work slice is shorter than the number of vertices
 unfoldable pub workRow : (vertices : ℕ) → Slices → Verdict
-workRow n lent = row (ltb (length (lent .g)) n || (ltb (length (lent .parents)) n || ltb (length (lent .marks)) n)) 6 0
+workRow n lent =
+    row (ltb (length (lent .g)) n || (ltb (length (lent .parents)) n || (ltb (length (lent .marks)) n || ltb (length (lent .legs)) n))) 6 0
 
 -- once the search has run: row 7 or the path, which is handed back if the path slice can hold it; or 8
 unfoldable pub searchRow : Problem → (lent : ℕ) → Handed Route
 searchRow p lent =
     let s = search p .state in
     let n = length (path p s) in
-    cond (search p .found) (unless noRoute (row (ltb lent n) 7 n) (found (at (s .g) (p .goal)) n (s .expansions) (s .tests)))
+    cond (search p .found) (unless noRoute (row (ltb lent n) 7 n) (found (at (s .g) (p .goal)) n (at (s .legs) (p .goal)) (s .expansions) (s .tests)))
     (none (s .expansions) (s .tests))
 
 -- rows 1 to 5, then 6, then what the search says
@@ -99,6 +102,7 @@ slicesAfter p number before =
       g = written (searched number) (s .g) (before .g);
       parents = written (searched number) (s .parent) (before .parents);
       marks = written (searched number) (s .mark) (before .marks);
+      legs = written (searched number) (s .legs) (before .legs);
       path = written (eqb number 0) (path p s) (before .path);
     }
 

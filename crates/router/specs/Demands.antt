@@ -1,5 +1,5 @@
 -- Demands 2 and 3, of what the route call hands back and leaves.
-use Prim.Native.Nat.{ℕ, _<_, _≤_}
+use Prim.Native.Nat.{ℕ, _+_, _<_, _≤_}
 use mathlib.Core.Path.{_≡_}
 use mathlib.Core.Bool.{false}
 use mathlib.Core.List.{List}
@@ -32,10 +32,11 @@ pub record Exhaustive (b : Board) (sx sy gx gy : ℕ) (h : Handed Route) : Type 
   pub path-expansions : h .number ≡ 0 → (k : ℕ) × Number (vertices b) (Joined b sx sy gx gy) k × (h .values .expansions < k)
   pub path-tests : h .number ≡ 0 → (k : ℕ) × Number² (vertices b) (JoinedPair b sx sy gx gy) k × (h .values .tests ≤ k)
 
--- demand 2, of a path in the path slice: it is a route, its units are those handed back, each leg rounded down, and nothing is
--- lost in the length in cells
+-- demand 2, of a path in the path slice: it is a route, its units are those handed back, each leg rounded down, nothing is lost in
+-- the length in cells, and it has one leg fewer than vertices
 pub record Rightly (b : Board) (sx sy gx gy : ℕ) (h : Handed Route) (path : List ℕ) : Type 0 where
   pub count : h .values .vertices ≤ length path
   pub route : IsRoute (problem b sx sy gx gy) (take (h .values .vertices) path) (h .values .units)
   pub rounded : RoundedDown b (take (h .values .vertices) path) (h .values .units)
   pub cells : HasValue (h .values .cells) false (h .values .units) unitsPerCell
+  pub legs : h .values .legs + 1 ≡ h .values .vertices

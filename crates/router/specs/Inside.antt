@@ -16,19 +16,20 @@ abbrev pub pathOf : (start goal : ℕ) → (parents : List ℕ) → List ℕ
 pathOf start goal parents = trail start parents (length parents) goal
 
 -- that path has been handed back, and written if the lent slice can hold it
-pub record PathGiven (start goal units expansions tests : ℕ) (parents path path′ : List ℕ) (h : Handed Route) : Type 0 where
+pub record PathGiven (start goal units legs expansions tests : ℕ) (parents path path′ : List ℕ) (h : Handed Route) : Type 0 where
   pub row-is : h ≡ unless noRoute (row (ltb (length path) (length (pathOf start goal parents))) 7 (length (pathOf start goal parents)))
-      (found units (length (pathOf start goal parents)) expansions tests)
+      (found units (length (pathOf start goal parents)) legs expansions tests)
   pub path-is : path′ ≡ written (not (ltb (length path) (length (pathOf start goal parents)))) (pathOf start goal parents) path
 
 -- a request that has passed the checks 1 to 6
-pub record Passed (b : Board) (sx sy gx gy : ℕ) (g parents marks : List ℕ) : Type 0 where
+pub record Passed (b : Board) (sx sy gx gy : ℕ) (g parents marks legs : List ℕ) : Type 0 where
   pub sound : Sound b
   pub start : OnBoard b sx sy
   pub goal : OnBoard b gx gy
   pub g-room : vertices b ≤ length g
   pub parents-room : vertices b ≤ length parents
   pub marks-room : vertices b ≤ length marks
+  pub legs-room : vertices b ≤ length legs
 
 -- the search has run, and its path has been handed back
 pub record Ran (p : Problem) (before after : Slices) (h : Handed Route) : Type 0 where

@@ -20,11 +20,12 @@ use turns::Outcome;
 
 // A route, or why there is none: document 01's 0, 8, and 1 to 7.
 pub enum Answer {
-    // The length in cells and in units, the number of the path's vertices, and both counts.
+    // The length in cells and in units, the number of the path's vertices and of its legs, and both counts.
     Found {
         cells: f64,
         units: u64,
         vertices: usize,
+        legs: usize,
         expansions: u64,
         tests: u64,
     },
@@ -45,13 +46,14 @@ fn tell_path(
     start: Vertex,
     goal: Vertex,
     units: u64,
+    legs: usize,
     outcome: Outcome,
     parents: &[Vertex],
     path: &mut [Vertex],
 ) -> Answer
     requires { ⌜ Traced (length (now parents)) start (now parents) goal ⌝ }
     requires { ⌜ units < 2 ^ 53 ⌝ }
-    ensures { λ r. ⌜ PathGiven start goal units (outcome .expansions) (outcome .tests) (now (parents .entry)) (now (path .entry)) (now (path .exit)) (handedRoute r) ⌝ }
+    ensures { λ r. ⌜ PathGiven start goal units legs (outcome .expansions) (outcome .tests) (now (parents .entry)) (now (path .entry)) (now (path .exit)) (handedRoute r) ⌝ }
 {
     let vertices = count_path(start, goal, parents);
     if path.len() < vertices {
@@ -62,6 +64,7 @@ fn tell_path(
         cells: exact_cells(units),
         units,
         vertices,
+        legs,
         expansions: outcome.expansions,
         tests: outcome.tests,
     }
@@ -79,12 +82,25 @@ fn search_route(
     g: &mut [u64],
     parents: &mut [Vertex],
     marks: &mut [u8],
+    legs: &mut [Vertex],
     path: &mut [Vertex],
 ) -> Answer
-    requires { ⌜ Passed (board (now cells) width height) sx sy gx gy (now g) (now parents) (now marks) ⌝ }
-    ensures { λ r. ⌜ Ran (problem (board (now (cells .entry)) width height) sx sy gx gy) (slices (now (g .entry)) (now (parents .entry)) (now (marks .entry)) (now (path .entry))) (slices (now (g .exit)) (now (parents .exit)) (now (marks .exit)) (now (path .exit))) (handedRoute r) ⌝ }
+    requires { ⌜ Passed (board (now cells) width height) sx sy gx gy (now g) (now parents) (now marks) (now legs) ⌝ }
+    ensures { λ r. ⌜ Ran (problem (board (now (cells .entry)) width height) sx sy gx gy) (slices (now (g .entry)) (now (parents .entry)) (now (marks .entry)) (now (legs .entry)) (now (path .entry))) (slices (now (g .exit)) (now (parents .exit)) (now (marks .exit)) (now (legs .exit)) (now (path .exit))) (handedRoute r) ⌝ }
 {
-    let outcome = find(cells, width, height, sx, sy, gx, gy, g, parents, marks);
+    let outcome = find(
+        cells,
+        width,
+        height,
+        sx,
+        sy,
+        gx,
+        gy,
+        g,
+        parents,
+        marks,
+        legs,
+    );
     if !outcome.found {
         return Answer::NoPath {
             expansions: outcome.expansions,
@@ -94,10 +110,11 @@ fn search_route(
     let start = number_of(width, sx, sy);
     let goal = number_of(width, gx, gy);
     let units = g[goal as usize];
-    tell_path(start, goal, units, outcome, parents, path)
+    let count = legs[goal as usize] as usize;
+    tell_path(start, goal, units, count, outcome, parents, path)
 }
 
-// The route from (sx, sy) to (gx, gy). The lent slices hold the search's g, parents and marks afterwards, and the path.
+// The route from (sx, sy) to (gx, gy). The lent slices hold the search's g, parents, marks and legs afterwards, and the path.
 pub fn route(
     cells: &[u8],
     width: usize,
@@ -109,16 +126,19 @@ pub fn route(
     g: &mut [u64],
     parents: &mut [Vertex],
     marks: &mut [u8],
+    legs: &mut [Vertex],
     path: &mut [Vertex],
 ) -> Answer
-    ensures { λ r. ⌜ Routed (board (now (cells .entry)) width height) sx sy gx gy (slices (now (g .entry)) (now (parents .entry)) (now (marks .entry)) (now (path .entry))) (slices (now (g .exit)) (now (parents .exit)) (now (marks .exit)) (now (path .exit))) (handedRoute r) ⌝ }
+    ensures { λ r. ⌜ Routed (board (now (cells .entry)) width height) sx sy gx gy (slices (now (g .entry)) (now (parents .entry)) (now (marks .entry)) (now (legs .entry)) (now (path .entry))) (slices (now (g .exit)) (now (parents .exit)) (now (marks .exit)) (now (legs .exit)) (now (path .exit))) (handedRoute r) ⌝ }
 {
     let checked = check_leg(cells, width, height, sx, sy, gx, gy);
     if let Checked::Refused(why) = checked {
         return Answer::Refused(why);
     }
     let vertices = (width + 1) * (height + 1);
-    if (g.len() < vertices) | ((parents.len() < vertices) | (marks.len() < vertices)) {
+    if (g.len() < vertices)
+        | ((parents.len() < vertices) | ((marks.len() < vertices) | (legs.len() < vertices)))
+    {
         return Answer::Work;
     }
     search_route(
@@ -132,6 +152,7 @@ pub fn route(
         g,
         parents,
         marks,
+        legs,
         path,
     )
 }

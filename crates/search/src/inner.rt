@@ -6,22 +6,22 @@ ghost use Rattle.board.specs.Inner.{Sound, OnBoard};
 ghost use Rattle.table.specs.Lengths.{smallSide, middleSide, Known};
 ghost use Rattle.theta.specs.Lent.{state, Searched};
 ghost use Rattle.problem.specs.Problem.{problem};
-ghost use Rattle.round.specs.Request.{asked, sizeOf, diagonal, Asked};
+ghost use Rattle.offers.specs.Request.{asked, sizeOf, diagonal, Asked};
 use board::LINE;
 use board::SIDE;
 use board::Vertex;
 use board::inner::number_of;
+use clearing::inner::begin;
 use entries::large_lengths;
 use entries::middle_lengths;
 use entries::small_lengths;
+use offers::Request;
 use open::list::GROUP;
 use open::list::open_vertex;
-use round::Request;
 use table::MIDDLE_SIDE;
 use table::SMALL_SIDE;
 use tournament::tree::NO_KEY;
 use turns::Outcome;
-use turns::inner::begin;
 use turns::inner::run;
 
 // The nodes of the largest board; node 0 is not used.
@@ -35,12 +35,13 @@ fn find_by(
     g: &mut [u64],
     parents: &mut [Vertex],
     marks: &mut [u8],
+    legs: &mut [Vertex],
     table: &[u32],
 ) -> Outcome
     requires { ⌜ Asked (now cells) request ⌝ }
-    requires { ⌜ (sizeOf request ≤ length (now g)) × (sizeOf request ≤ length (now parents)) × (sizeOf request ≤ length (now marks)) ⌝ }
+    requires { ⌜ (sizeOf request ≤ length (now g)) × (sizeOf request ≤ length (now parents)) × (sizeOf request ≤ length (now marks)) × (sizeOf request ≤ length (now legs)) ⌝ }
     requires { ⌜ Known (diagonal request) (now table) ⌝ }
-    ensures { λ r. ⌜ Searched (asked (now (cells .entry)) request) (state (now (g .entry)) (now (parents .entry)) (now (marks .entry)) 0 0) (state (now (g .exit)) (now (parents .exit)) (now (marks .exit)) (r .expansions) (r .tests)) (r .found) ⌝ }
+    ensures { λ r. ⌜ Searched (asked (now (cells .entry)) request) (state (now (g .entry)) (now (parents .entry)) (now (marks .entry)) (now (legs .entry)) 0 0) (state (now (g .exit)) (now (parents .exit)) (now (marks .exit)) (now (legs .exit)) (r .expansions) (r .tests)) (r .found) ⌝ }
 {
     let mut leads = [0 as Vertex; NODES];
     let mut keys = [NO_KEY; NODES];
@@ -51,6 +52,7 @@ fn find_by(
         g,
         parents,
         marks,
+        legs,
     );
     open_vertex(
         request.width,
@@ -61,8 +63,10 @@ fn find_by(
         request.gy,
         start as usize,
         0,
+        0,
         g,
         marks,
+        legs,
         &mut leads,
         &mut keys,
         table,
@@ -73,6 +77,7 @@ fn find_by(
         g,
         parents,
         marks,
+        legs,
         &mut leads,
         &mut keys,
         table,
@@ -86,14 +91,15 @@ fn find_small(
     g: &mut [u64],
     parents: &mut [Vertex],
     marks: &mut [u8],
+    legs: &mut [Vertex],
 ) -> Outcome
     requires { ⌜ Asked (now cells) request ⌝ }
-    requires { ⌜ (sizeOf request ≤ length (now g)) × (sizeOf request ≤ length (now parents)) × (sizeOf request ≤ length (now marks)) ⌝ }
+    requires { ⌜ (sizeOf request ≤ length (now g)) × (sizeOf request ≤ length (now parents)) × (sizeOf request ≤ length (now marks)) × (sizeOf request ≤ length (now legs)) ⌝ }
     requires { ⌜ (request .width ≤ smallSide) × (request .height ≤ smallSide) ⌝ }
-    ensures { λ r. ⌜ Searched (asked (now (cells .entry)) request) (state (now (g .entry)) (now (parents .entry)) (now (marks .entry)) 0 0) (state (now (g .exit)) (now (parents .exit)) (now (marks .exit)) (r .expansions) (r .tests)) (r .found) ⌝ }
+    ensures { λ r. ⌜ Searched (asked (now (cells .entry)) request) (state (now (g .entry)) (now (parents .entry)) (now (marks .entry)) (now (legs .entry)) 0 0) (state (now (g .exit)) (now (parents .exit)) (now (marks .exit)) (now (legs .exit)) (r .expansions) (r .tests)) (r .found) ⌝ }
 {
     let table = small_lengths();
-    find_by(cells, request, g, parents, marks, &table)
+    find_by(cells, request, g, parents, marks, legs, &table)
 }
 
 fn find_middle(
@@ -102,14 +108,15 @@ fn find_middle(
     g: &mut [u64],
     parents: &mut [Vertex],
     marks: &mut [u8],
+    legs: &mut [Vertex],
 ) -> Outcome
     requires { ⌜ Asked (now cells) request ⌝ }
-    requires { ⌜ (sizeOf request ≤ length (now g)) × (sizeOf request ≤ length (now parents)) × (sizeOf request ≤ length (now marks)) ⌝ }
+    requires { ⌜ (sizeOf request ≤ length (now g)) × (sizeOf request ≤ length (now parents)) × (sizeOf request ≤ length (now marks)) × (sizeOf request ≤ length (now legs)) ⌝ }
     requires { ⌜ (request .width ≤ middleSide) × (request .height ≤ middleSide) ⌝ }
-    ensures { λ r. ⌜ Searched (asked (now (cells .entry)) request) (state (now (g .entry)) (now (parents .entry)) (now (marks .entry)) 0 0) (state (now (g .exit)) (now (parents .exit)) (now (marks .exit)) (r .expansions) (r .tests)) (r .found) ⌝ }
+    ensures { λ r. ⌜ Searched (asked (now (cells .entry)) request) (state (now (g .entry)) (now (parents .entry)) (now (marks .entry)) (now (legs .entry)) 0 0) (state (now (g .exit)) (now (parents .exit)) (now (marks .exit)) (now (legs .exit)) (r .expansions) (r .tests)) (r .found) ⌝ }
 {
     let table = middle_lengths();
-    find_by(cells, request, g, parents, marks, &table)
+    find_by(cells, request, g, parents, marks, legs, &table)
 }
 
 fn find_large(
@@ -118,13 +125,14 @@ fn find_large(
     g: &mut [u64],
     parents: &mut [Vertex],
     marks: &mut [u8],
+    legs: &mut [Vertex],
 ) -> Outcome
     requires { ⌜ Asked (now cells) request ⌝ }
-    requires { ⌜ (sizeOf request ≤ length (now g)) × (sizeOf request ≤ length (now parents)) × (sizeOf request ≤ length (now marks)) ⌝ }
-    ensures { λ r. ⌜ Searched (asked (now (cells .entry)) request) (state (now (g .entry)) (now (parents .entry)) (now (marks .entry)) 0 0) (state (now (g .exit)) (now (parents .exit)) (now (marks .exit)) (r .expansions) (r .tests)) (r .found) ⌝ }
+    requires { ⌜ (sizeOf request ≤ length (now g)) × (sizeOf request ≤ length (now parents)) × (sizeOf request ≤ length (now marks)) × (sizeOf request ≤ length (now legs)) ⌝ }
+    ensures { λ r. ⌜ Searched (asked (now (cells .entry)) request) (state (now (g .entry)) (now (parents .entry)) (now (marks .entry)) (now (legs .entry)) 0 0) (state (now (g .exit)) (now (parents .exit)) (now (marks .exit)) (now (legs .exit)) (r .expansions) (r .tests)) (r .found) ⌝ }
 {
     let table = large_lengths();
-    find_by(cells, request, g, parents, marks, &table)
+    find_by(cells, request, g, parents, marks, legs, &table)
 }
 
 // The search from (sx, sy) to (gx, gy). It leaves in the lent slices what the definition has for each vertex.
@@ -139,11 +147,12 @@ pub fn find(
     g: &mut [u64],
     parents: &mut [Vertex],
     marks: &mut [u8],
+    legs: &mut [Vertex],
 ) -> Outcome
     requires { ⌜ Sound (board (now cells) width height) ⌝ }
     requires { ⌜ OnBoard (board (now cells) width height) sx sy × OnBoard (board (now cells) width height) gx gy ⌝ }
-    requires { ⌜ (vertices (board (now cells) width height) ≤ length (now g)) × (vertices (board (now cells) width height) ≤ length (now parents)) × (vertices (board (now cells) width height) ≤ length (now marks)) ⌝ }
-    ensures { λ r. ⌜ Searched (problem (board (now (cells .entry)) width height) sx sy gx gy) (state (now (g .entry)) (now (parents .entry)) (now (marks .entry)) 0 0) (state (now (g .exit)) (now (parents .exit)) (now (marks .exit)) (r .expansions) (r .tests)) (r .found) ⌝ }
+    requires { ⌜ (vertices (board (now cells) width height) ≤ length (now g)) × (vertices (board (now cells) width height) ≤ length (now parents)) × (vertices (board (now cells) width height) ≤ length (now marks)) × (vertices (board (now cells) width height) ≤ length (now legs)) ⌝ }
+    ensures { λ r. ⌜ Searched (problem (board (now (cells .entry)) width height) sx sy gx gy) (state (now (g .entry)) (now (parents .entry)) (now (marks .entry)) (now (legs .entry)) 0 0) (state (now (g .exit)) (now (parents .exit)) (now (marks .exit)) (now (legs .exit)) (r .expansions) (r .tests)) (r .found) ⌝ }
 {
     let request = Request {
         width,
@@ -154,10 +163,10 @@ pub fn find(
         gy,
     };
     if (width <= SMALL_SIDE) & (height <= SMALL_SIDE) {
-        return find_small(cells, request, g, parents, marks);
+        return find_small(cells, request, g, parents, marks, legs);
     }
     if (width <= MIDDLE_SIDE) & (height <= MIDDLE_SIDE) {
-        return find_middle(cells, request, g, parents, marks);
+        return find_middle(cells, request, g, parents, marks, legs);
     }
-    find_large(cells, request, g, parents, marks)
+    find_large(cells, request, g, parents, marks, legs)
 }

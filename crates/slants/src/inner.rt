@@ -9,8 +9,8 @@ ghost use Rattle.legs.specs.Leg.{far};
 ghost use Rattle.legs.specs.Stops.{cellsStop};
 ghost use Rattle.slants.specs.Walk.{forward, cornerOf, stopAt, pinch, StepsOf};
 ghost use Rattle.legs.specs.Inner.{EndsOn};
-use walls::leg;
 use legs::Stop;
+use walls::leg;
 
 // What a step along the leg adds to a cell's index (right, down) or takes from it (left, up).
 pub struct Steps {

@@ -21,6 +21,7 @@ use Rattle.theta.specs.Search.{
   due,
   via,
   cost,
+  legsBy,
   wins,
   store,
   relax,
@@ -42,9 +43,9 @@ use Rattle.theta.proofs.Completeness.{search-keep}
 use Rattle.theta.proofs.Trails.{trail-start, trail-back}
 use Rattle.theta.proofs.Tidy.{Tidy, tidy-start, tidy-kept, via-below, relax-tidy, close-tidy, expand-tidy, around-keep}
 
-module _ (gs ps ms : List ℕ) where
+module _ (gs ps ms ls : List ℕ) where
   long : State → State
-  long s = beyond s gs ps ms
+  long s = beyond s gs ps ms ls
 
   -- ---- the entries of the vertices are the same
 
@@ -61,31 +62,41 @@ module _ (gs ps ms : List ℕ) where
     unfolding long beyond
     mark-same v l = List·getD-append (s .mark) ms 0 v (omega (arith, T .room-m))
 
+    legs-same : (v : ℕ) → v < p .size → at ((long s) .legs) v ≡ at (s .legs) v
+    unfolding long beyond
+    legs-same v l = List·getD-append (s .legs) ls 0 v (omega (arith, T .room-l))
+
     -- the choice reads only these
     choose-beyond : choose p (long s) ≡ choose p s
     unfolding choose
     choose-beyond =
         ap (λ (u : ℕ). choiceOf (eqb u (p .size)) (eqb u (p .goal)) u)
         (least-same (contestOf p s) (contestOf p (long s)) refl (λ v l. ap (λ (x : ℕ). eqb x 1) (mark-same v l))
-        (λ v l. ap (λ (x : ℕ). ranked (x + p .len v (p .goal)) x v) (g-same v l)) (p .size) (omega arith))
+        (λ v l. rank-same v (g-same v l) (legs-same v l)) (p .size) (omega arith))
+      where
+        rank-same : (v : ℕ) {g g′ k k′ : ℕ} → g ≡ g′ → k ≡ k′ → ranked (g + p .len v (p .goal)) g k v ≡ ranked (g′ + p .len v (p .goal)) g′ k′ v
+        rank-same v e f = rw (e, f) refl
 
     -- ---- so is what one neighbour gets
 
-    store-beyond : (d : Bool) (w c g : ℕ) → w < p .size → store d w c g (long s) ≡ long (store d w c g s)
+    store-beyond : (d : Bool) (w c g : ℕ) → w < p .size → c < p .size → store d w c g (long s) ≡ long (store d w c g s)
     unfolding long beyond
-    store-beyond true w c g l =
+    store-beyond true w c g l k =
         rw (
           set-append-left (s .g) gs w g (omega (arith, T .room-g)),
           set-append-left (s .parent) ps w c (omega (arith, T .room-p)),
           set-append-left (s .mark) ms w 1 (omega (arith, T .room-m)),
+          legs-same c k,
+          set-append-left (s .legs) ls w (legsBy s c) (omega (arith, T .room-l)),
         ) refl
-    store-beyond false w c g l = refl
+    store-beyond false w c g l k = refl
 
     relax-beyond : (x : Bool) (u w : ℕ) → u < p .size → w < p .size → relax x p u w (long s) ≡ long (relax x p u w s)
     relax-beyond true u w l h =
-        let c = g-same (via p s u w) (via-below T u w l) in
-        rw (parent-same u l, c, wins-same p s (via p s u w) w (long s) (mark-same w h) (g-same w h) c)
-        (store-beyond (wins p s (via p s u w) w) w (via p s u w) (cost p s (via p s u w) w) h)
+        let b = via-below T u w l in
+        let c = g-same (via p s u w) b in
+        rw (parent-same u l, c, wins-same p s (via p s u w) w (long s) (mark-same w h) (g-same w h) c (legs-same w h) (legs-same (via p s u w) b))
+        (store-beyond (wins p s (via p s u w) w) w (via p s u w) (cost p s (via p s u w) w) h b)
     relax-beyond false u w l h = refl
 
     close-beyond : (u : ℕ) → u < p .size → close u (long s) ≡ long (close u s)
@@ -114,8 +125,8 @@ module _ (gs ps ms : List ℕ) where
 
     -- the search on longer lists is the search, with what lies beyond
     pub search-beyond : Fair p
-        → turns (basic p) (suc (p .size)) (beyond (initial p) gs ps ms)
-        ≡ record { found = (search p) .found; state = beyond ((search p) .state) gs ps ms }
+        → turns (basic p) (suc (p .size)) (beyond (initial p) gs ps ms ls)
+        ≡ record { found = (search p) .found; state = beyond ((search p) .state) gs ps ms ls }
     unfolding search long
     search-beyond F = turns-carried carries (suc (p .size)) (initial p) (tidy-start F (begins-initial F))
 
@@ -143,12 +154,13 @@ path-beyond {p} F l ps = trail-beyond (search-keep F (tidy-kept F) (tidy-start F
 
 -- the whole that the loop's invariant speaks of is the search
 pub searched : {p : Problem} → Fair p → (before : State) {found : Bool} {after : State}
-    → turns (basic p) (suc (p .size)) (beyond (initial p) (drop (p .size) (before .g)) (drop (p .size) (before .parent)) (drop (p .size) (before .mark)))
+    → turns (basic p) (suc (p .size))
+    (beyond (initial p) (drop (p .size) (before .g)) (drop (p .size) (before .parent)) (drop (p .size) (before .mark)) (drop (p .size) (before .legs)))
     ≡ record { found = found; state = after }
     → Searched p before after found
 unfolding beyond
 searched {p} F before e =
-    let q = sym e ∙ search-beyond (drop (p .size) (before .g)) (drop (p .size) (before .parent)) (drop (p .size) (before .mark)) F in
+    let q = sym e ∙ search-beyond (drop (p .size) (before .g)) (drop (p .size) (before .parent)) (drop (p .size) (before .mark)) (drop (p .size) (before .legs)) F in
     record {
       found-is = ap (λ (r : Result State). r .found) q;
       expansions-is = ap (λ (r : Result State). r .state .expansions) q;
@@ -156,4 +168,5 @@ searched {p} F before e =
       g-is = ap (λ (r : Result State). r .state .g) q;
       parent-is = ap (λ (r : Result State). r .state .parent) q;
       mark-is = ap (λ (r : Result State). r .state .mark) q;
+      legs-is = ap (λ (r : Result State). r .state .legs) q;
     }

@@ -55,3 +55,9 @@ module _ {p : Problem} (F : Fair p) {longest : ℕ} (W : FairLegs p longest) {be
   -- and are no more than a longest leg for each vertex
   pub lent-bound : at (after .g) (p .goal) ≤ p .size * longest
   lent-bound = rw lent-units (g-bound F (search-stopped F .sane) (search-held F W) (p .goal) (goal-now .0) (rw (goal-now .1) refl))
+
+  -- its legs stand at the goal's place too
+  pub lent-legs : at (after .legs) (p .goal) ≡ at ((search p) .state .legs) (p .goal)
+  lent-legs =
+      ap (λ (x : List ℕ). at x (p .goal)) (S .legs-is)
+      ∙ List·getD-append ((search p) .state .legs) (drop (p .size) (before .legs)) 0 (p .goal) (omega (arith, sizes .legs-size, goal-now .0))

@@ -1,15 +1,17 @@
 -- All that the turns of the search keep, in one record, and the loop rule with it. Assumes nothing.
-use mathlib.Core.Path.{_≡_}
+use mathlib.Core.Path.{_≡_, refl}
 use mathlib.Core.Bool.{true, false}
 use Prim.Native.Nat.{ℕ, suc, _*_, _≤_, _<_}
 use native.Mathlib.Nat.{le-trans, mul-le-mul-right}
 use native.Mathlib.Omega.{arith}
+use borrow.Author.Tests.{ne-eqb}
 use Rattle.reach.specs.Turns.{at, seenIn, doneIn, nothing, arrived, vertex, Result, turns}
 use Rattle.reach.proofs.Counting.{pairs-le}
 use Rattle.reach.proofs.Taken.{touched}
 use Rattle.reach.proofs.Turns.{expansions-le}
 use Rattle.reach.proofs.Going as Loop
 use Rattle.theta.specs.Search.{Problem, State, choose, expand, basic, search}
+use Rattle.theta.specs.Demands.{LegsCounted}
 use Rattle.theta.specs.Lent.{Begins}
 use Rattle.theta.specs.Fair.{Fair, FairLegs}
 use Rattle.theta.proofs.Choosing.{choose-vertex}
@@ -17,7 +19,7 @@ use Rattle.theta.proofs.Taking.{basic-disciplined}
 use Rattle.theta.proofs.Begins.{begins-initial}
 use Rattle.theta.proofs.Completeness.{Good, Counted, Kept, good-start, counted-start, counted-kept, search-keep}
 use Rattle.theta.proofs.Tidy.{Tidy, tidy-start, tidy-kept}
-use Rattle.theta.proofs.Links.{Linked, linked-start, linked-step}
+use Rattle.theta.proofs.Links.{Linked, linked-start, linked-step, legs-back}
 
 -- the tests are counted, the lists are tidy, the seen vertices hang on the start
 pub record Held (p : Problem) (longest : ℕ) (s : State) : Type 0 where
@@ -48,7 +50,26 @@ module _ {p : Problem} (F : Fair p) {longest : ℕ} where
   pub search-held : FairLegs p longest → Held p longest ((search p) .state)
   search-held W = search-keep F (held-kept W) (held-start (begins-initial F))
 
+  -- the legs are counted from the start
+  pub search-legs : FairLegs p longest → LegsCounted p ((search p) .state)
+  search-legs W =
+      let K = search-held W .linked in
+      record {
+        start-legs = K .root-legs;
+        seen-legs = λ v l h d. K .links v l (rw (ne-eqb (at ((search p) .state .mark) v) 0 h) refl) d .counts;
+      }
+
+  -- every parent is a vertex
+  pub search-parents : FairLegs p longest → (v : ℕ) → v < p .size → at ((search p) .state .parent) v < p .size
+  search-parents W = search-held W .tidy .parents
+
   -- ---- bounds, for numbers that have to fit
+
+  -- no vertex has more legs than there were expansions
+  pub legs-bound : {s : State} → Good p s → Held p longest s → (v : ℕ) → v < p .size → seenIn (s .mark) v ≡ true → at (s .legs) v ≤ s .expansions
+  legs-bound G H v l h =
+      let q = H .linked .depth v l h in
+      omega (arith, legs-back G (H .linked) (q .1) h, q .2)
 
   pub g-bound : {s : State} → Good p s → Held p longest s → (v : ℕ) → v < p .size → seenIn (s .mark) v ≡ true → at (s .g) v ≤ p .size * longest
   g-bound G H v l h = le-trans (H .linked .bound v l h) (mul-le-mul-right longest (expansions-le (F .ground) G))

@@ -1,4 +1,5 @@
--- The links of the parents: each seen vertex but the start hangs on an expanded parent, with sight, its g the parent's g and the leg.
+-- The links of the parents: each seen vertex but the start hangs on an expanded parent, with sight, its g the parent's g and the leg,
+-- and its legs one more than the parent's.
 -- A chain has at most as many legs as there were expansions, and g stays within expansions × the longest leg. Assumes nothing.
 use mathlib.Core.Path.{_≡_, refl, sym, ap, _∙_}
 use mathlib.Core.Logic.{_⊎_, inl, inr, _≢_}
@@ -14,10 +15,10 @@ use Rattle.reach.specs.Turns.{at, seenIn, doneIn}
 use Rattle.reach.proofs.Taken.{Step}
 use Rattle.reach.proofs.Marks.{Marks, marks-set, marks-step, set-done, set-seen}
 use Rattle.theta.specs.Search.{Problem, State, due, via, wins, close, expand}
-use Rattle.theta.specs.Lent.{Begins}
+use Rattle.theta.specs.Lent.{Begins, Better}
 use Rattle.theta.specs.Fair.{Fair, FairLegs}
 use Rattle.theta.specs.Back.{Back, root, leg}
-use Rattle.theta.proofs.Wins.{wins-unseen, wins-lower}
+use Rattle.theta.proofs.Wins.{wins-unseen, wins-better}
 use Rattle.theta.proofs.Taking.{expand-mark, expand-expansions}
 use Rattle.theta.proofs.Completeness.{Good}
 use Rattle.theta.proofs.Tidy.{Tidy}
@@ -30,11 +31,13 @@ pub record Link (p : Problem) (s : State) (v : ℕ) : Type 0 where
   pub apart : at (s .parent) v ≢ v
   pub sight : p .sees (at (s .parent) v) v ≡ true
   pub adds : at (s .g) v ≡ at (s .g) (at (s .parent) v) + p .len (at (s .parent) v) v
+  pub counts : at (s .legs) v ≡ at (s .legs) (at (s .parent) v) + 1
 
 -- every seen vertex hangs on the start, by chains, and the longest leg is `longest`
 pub record Linked (p : Problem) (longest : ℕ) (s : State) : Type 0 where
   pub root : at (s .parent) (p .start) ≡ p .start
   pub root-g : at (s .g) (p .start) ≡ 0
+  pub root-legs : at (s .legs) (p .start) ≡ 0
   pub links : (v : ℕ) → v < p .size → seenIn (s .mark) v ≡ true → v ≢ p .start → Link p s v
   pub bound : (v : ℕ) → v < p .size → seenIn (s .mark) v ≡ true → at (s .g) v ≤ s .expansions * longest
   pub depth : (v : ℕ) → v < p .size → seenIn (s .mark) v ≡ true → (k : ℕ) × Back (p .size) (p .start) (s .parent) v k × (k ≤ s .expansions)
@@ -51,6 +54,7 @@ pub linked-start : {p : Problem} {s : State} (longest : ℕ) → Fair p → Begi
 linked-start {p} {s} longest F B = record {
   root = B .parent-at (p .start) (F .ground .start-on) ∙ rw (eq-eqb (p .start) (p .start) refl) refl;
   root-g = B .g-at (p .start) (F .ground .start-on);
+  root-legs = B .legs-at (p .start) (F .ground .start-on);
   links = λ v l h n. absurd (n (only v l h));
   bound = λ v l h. omega (arith, B .g-at v l);
   depth = λ v l h. (0, rw (only v l h) root, omega arith);
@@ -122,17 +126,20 @@ module _ {p : Problem} (F : Fair p) {longest : ℕ} (W : FairLegs p longest) (u 
   won₁ v = won p u (close u s) v
 
   -- each vertex has what it was offered, if it won, and else what it had
-  after : (v : ℕ) → v < p .size → entryOf s′ v ≡ cond (won₁ v) (record { g = at (s .g) (c v) + p .len (c v) v; parent = c v }) (entryOf s v)
+  after : (v : ℕ) → v < p .size → entryOf s′ v ≡ cond (won₁ v) (record { g = at (s .g) (c v) + p .len (c v) v; parent = c v; legs = at (s .legs) (c v) + 1 }) (entryOf s v)
   unfolding s′ expand won₁ c close
-  after v k = entry p u (close u s) marks₁ (T .room-g) (T .room-p) (taken-upstream .done) (parent-upstream .done) (p .size) v k (omega arith)
+  after v k = entry p u (close u s) marks₁ (T .room-g) (T .room-p) (T .room-l) (taken-upstream .done) (parent-upstream .done) (p .size) v k (omega arith)
 
   -- an expanded vertex keeps its entry
   fixed : (v : ℕ) → doneIn (set (s .mark) u 2) v ≡ true → entryOf s′ v ≡ entryOf s v
   unfolding s′ expand close
-  fixed v d = kept p u (close u s) marks₁ (T .room-g) (T .room-p) (taken-upstream .done) (parent-upstream .done) (p .size) v (omega arith) d
+  fixed v d = kept p u (close u s) marks₁ (T .room-g) (T .room-p) (T .room-l) (taken-upstream .done) (parent-upstream .done) (p .size) v (omega arith) d
 
   fixed-g : (v : ℕ) → doneIn (set (s .mark) u 2) v ≡ true → at (s′ .g) v ≡ at (s .g) v
   fixed-g v d = ap (λ (x : Entry). x .g) (fixed v d)
+
+  fixed-legs : (v : ℕ) → doneIn (set (s .mark) u 2) v ≡ true → at (s′ .legs) v ≡ at (s .legs) v
+  fixed-legs v d = ap (λ (x : Entry). x .legs) (fixed v d)
 
   fixed-parent : (v : ℕ) → doneIn (set (s .mark) u 2) v ≡ true → at (s′ .parent) v ≡ at (s .parent) v
   fixed-parent v d = ap (λ (x : Entry). x .parent) (fixed v d)
@@ -144,12 +151,18 @@ module _ {p : Problem} (F : Fair p) {longest : ℕ} (W : FairLegs p longest) (u 
     new-parent : at (s′ .parent) v ≡ c v
     new-parent = ap (λ (x : Entry). x .parent) (rw w at (after v k))
 
+    new-legs : at (s′ .legs) v ≡ at (s .legs) (c v) + 1
+    new-legs = ap (λ (x : Entry). x .legs) (rw w at (after v k))
+
   module _ (v : ℕ) (k : v < p .size) (w : won₁ v ≡ false) where
     old-g : at (s′ .g) v ≡ at (s .g) v
     old-g = ap (λ (x : Entry). x .g) (rw w at (after v k))
 
     old-parent : at (s′ .parent) v ≡ at (s .parent) v
     old-parent = ap (λ (x : Entry). x .parent) (rw w at (after v k))
+
+    old-legs : at (s′ .legs) v ≡ at (s .legs) v
+    old-legs = ap (λ (x : Entry). x .legs) (rw w at (after v k))
 
   -- ---- who won
 
@@ -165,16 +178,17 @@ module _ {p : Problem} (F : Fair p) {longest : ℕ} (W : FairLegs p longest) (u 
   unfolding close
   won-fresh v h = not-true (doneIn (set (s .mark) u 2) v) (and-right (p .near u v) (not (doneIn (set (s .mark) u 2) v)) (won-due v h))
 
-  -- the start keeps its entry
+  -- the start keeps its entry: no g is below 0, and no legs are fewer than none
   start-lost : won₁ (p .start) ≡ true → ⊥
   unfolding won₁ close
   start-lost h =
-      omega (
-        arith,
-        wins-lower p (close u s) (via p (close u s) u (p .start)) (p .start) (seen₁ (p .start) ∙ G .inv .first)
-            (and-right (due p u (p .start) (close u s)) (wins p (close u s) (via p (close u s) u (p .start)) (p .start)) h),
-        K .root-g,
-      )
+      go
+      (wins-better p (close u s) (via p (close u s) u (p .start)) (p .start) (seen₁ (p .start) ∙ G .inv .first)
+      (and-right (due p u (p .start) (close u s)) (wins p (close u s) (via p (close u s) u (p .start)) (p .start)) h))
+    where
+      go : {g legs : ℕ} → Better g legs (at (s .g) (p .start)) (at (s .legs) (p .start)) → ⊥
+      go (inl x) = omega (arith, x, K .root-g)
+      go (inr x) = omega (arith, x .1, K .root-legs)
 
   start-kept : won₁ (p .start) ≡ false
   start-kept = false-of (won₁ (p .start)) start-lost
@@ -212,6 +226,7 @@ module _ {p : Problem} (F : Fair p) {longest : ℕ} (W : FairLegs p longest) (u 
         apart = λ e. true≢false (sym (a .done) ∙ ap (doneIn (set (s .mark) u 2)) (sym q ∙ e) ∙ won-fresh v w);
         sight = rw q (c-sees v (won-near v w));
         adds = rw q (rw (fixed-g (c v) (a .done)) (new-g v k w));
+        counts = rw q (rw (fixed-legs (c v) (a .done)) (new-legs v k w));
       }
 
   link-kept : (v : ℕ) → v < p .size → won₁ v ≡ false → Link p s v → Link p s′ v
@@ -224,6 +239,7 @@ module _ {p : Problem} (F : Fair p) {longest : ℕ} (W : FairLegs p longest) (u 
         apart = rw q (a .apart);
         sight = rw q (a .sight);
         adds = rw q (rw (fixed-g (at (s .parent) v) d) (old-g v k w ∙ a .adds));
+        counts = rw q (rw (fixed-legs (at (s .parent) v) d) (old-legs v k w ∙ a .counts));
       }
 
   links-after : (v : ℕ) → v < p .size → seenIn (s′ .mark) v ≡ true → v ≢ p .start → (won₁ v ≡ true) ⊎ (won₁ v ≡ false) → Link p s′ v
@@ -285,7 +301,16 @@ module _ {p : Problem} (F : Fair p) {longest : ℕ} (W : FairLegs p longest) (u 
   linked-step = record {
     root = old-parent (p .start) (F .ground .start-on) start-kept ∙ K .root;
     root-g = old-g (p .start) (F .ground .start-on) start-kept ∙ K .root-g;
+    root-legs = old-legs (p .start) (F .ground .start-on) start-kept ∙ K .root-legs;
     links = λ v k h d. links-after v k h d (bool-cases (won₁ v));
     bound = λ v k h. bound-after v k h (bool-cases (won₁ v));
     depth = λ v k h. depth-after v k h (bool-cases (won₁ v));
   }
+
+-- as many parents lead from a seen vertex back to the start as it has legs
+pub legs-back : {p : Problem} {longest : ℕ} {s : State} → Good p s → Linked p longest s → {v k : ℕ} → Back (p .size) (p .start) (s .parent) v k
+    → seenIn (s .mark) v ≡ true → at (s .legs) v ≡ k
+legs-back G K root h = K .root-legs
+legs-back {s = s} G K (leg {v} {k} m d r) h =
+    let a = K .links v m h d in
+    omega (arith, a .counts, legs-back G K r (G .inv .within (at (s .parent) v) (a .below) (a .behind)))

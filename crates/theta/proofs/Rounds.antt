@@ -8,23 +8,24 @@ use native.Mathlib.Omega.{arith}
 use native.Mathlib.Numerals.{add-one}
 use lib.Dec.{eqb, ltb}
 use lib.ListN.{length-set}
-use borrow.Author.Tests.{eqb-true, eq-eqb, ne-eqb, ltb-true}
+use borrow.Author.Tests.{eqb-true, eq-eqb, ne-eqb}
 use Rattle.laws.proofs.Tests.{and-false}
 use Rattle.reach.specs.Reach.{Reach, move}
 use Rattle.reach.specs.Turns.{at, doneIn, vertex, Result}
 use Rattle.laws.proofs.Below.{many-le}
 use Rattle.reach.proofs.Taken.{unmet}
 use Rattle.reach.proofs.Marks.{turned, turned-done, turned-le, turned-seen, marks-set, set-seen}
+use Rattle.theta.specs.Order.{lessOr}
 use Rattle.theta.specs.Search.{Problem, State, choose, via, cost, wins, store, due, relax, around, close, expand}
 use Rattle.theta.specs.Fair.{Fair, FairLegs}
-use Rattle.theta.specs.Lent.{counting, marked, Ready, Looked, Rounded}
-use Rattle.theta.proofs.Wins.{wins-test}
+use Rattle.theta.specs.Lent.{counting, marked, Ready, Better, Looked, Rounded}
+use Rattle.theta.proofs.Wins.{better, wins-test}
 use Rattle.theta.proofs.Choosing.{choose-vertex}
 use Rattle.theta.proofs.Taking.{around-mark, around-tests, around-skip}
 use Rattle.theta.proofs.Tidy.{SameSizes, around-sizes}
 use Rattle.theta.proofs.Entries.{Entry, entryOf, cond-of, kept}
 use Rattle.theta.proofs.Links.{taken-upstream, parent-upstream}
-use Rattle.theta.proofs.Held.{Going, g-bound, going-step}
+use Rattle.theta.proofs.Held.{Going, g-bound, legs-bound, going-room, going-step}
 
 -- ---- one vertex
 
@@ -37,23 +38,23 @@ module _ (p : Problem) (u w : ℕ) (s : State) where
   pub look-done : at (s .mark) w ≡ 2 → Looked p u w s s
   look-done h = record { is = rw (h, and-false (p .near u w) refl) refl }
 
-  -- it is due: c is the candidate parent, a the candidate g
-  module _ (h : p .near u w ≡ true) (d : at (s .mark) w ≢ 2) (c a : ℕ)
-      (ec : c ≡ cond (p .sees (at (s .parent) u) w) (at (s .parent) u) u) (ea : a ≡ at (s .g) c + p .len c w) where
-    pub look-due : (b : Bool) → (eqb (at (s .mark) w) 0 || ltb a (at (s .g) w)) ≡ b → Looked p u w s (store b w c a s)
-    look-due b x = record { is = rw (h, ne-eqb (at (s .mark) w) 2 d, ← ec, wins-test p s c w, ← ea, x) refl }
+  -- it is due: c is the candidate parent, a the candidate g, j the candidate legs
+  module _ (h : p .near u w ≡ true) (d : at (s .mark) w ≢ 2) (c a j : ℕ)
+      (ec : c ≡ cond (p .sees (at (s .parent) u) w) (at (s .parent) u) u) (ea : a ≡ at (s .g) c + p .len c w) (ej : j ≡ at (s .legs) c + 1) where
+    pub look-due : (b : Bool) → (eqb (at (s .mark) w) 0 || lessOr a (at (s .g) w) (ltb j (at (s .legs) w))) ≡ b → Looked p u w s (store b w c a s)
+    look-due b x = record { is = rw (h, ne-eqb (at (s .mark) w) 2 d, ← ec, wins-test p s c w, ← ea, ← ej, x) refl }
 
--- an open vertex wins by a smaller g
-pub fell : (m c old : ℕ) → (eqb m 0 || ltb c old) ≡ true → m ≡ 1 → c < old
-fell m c old h e = ltb-true c old (rw e at h)
+-- an open vertex wins by a smaller g, or by the same and fewer legs
+pub fell : (m c k old few : ℕ) → (eqb m 0 || lessOr c old (ltb k few)) ≡ true → m ≡ 1 → Better c k old few
+fell m c k old few h e = better c k old few (rw e at h)
 
--- the candidate parent is on the board, and its g is bounded
+-- the candidate parent is on the board, its g is bounded, and it has fewer legs than there are vertices
 pub ready-candidate : {p : Problem} {most u : ℕ} {s : State} → Ready p most u s → (w c : ℕ)
-    → c ≡ cond (p .sees (at (s .parent) u) w) (at (s .parent) u) u → (c < p .size) × (at (s .g) c ≤ most)
+    → c ≡ cond (p .sees (at (s .parent) u) w) (at (s .parent) u) u → (c < p .size) × (at (s .g) c ≤ most) × (at (s .legs) c < p .size)
 ready-candidate {p} {most} {u} {s} R w c e =
     rw e
-    (cond-of (p .sees (at (s .parent) u) w) (at (s .parent) u) u (λ x. (x < p .size) × (at (s .g) x ≤ most)) (R .on-parent, R .g-most-parent)
-    (R .on, R .g-most))
+    (cond-of (p .sees (at (s .parent) u) w) (at (s .parent) u) u (λ x. (x < p .size) × (at (s .g) x ≤ most) × (at (s .legs) x < p .size))
+    (R .on-parent, R .g-most-parent, R .few-legs-parent) (R .on, R .g-most, R .few-legs))
 
 -- ---- one after another
 
@@ -89,7 +90,7 @@ module _ {p : Problem} {u k : ℕ} {s r : State} (R : Rounded p u k s r) where
     fixed : (v : ℕ) → at (s .mark) v ≡ 2 → entryOf r v ≡ entryOf s v
     fixed v d =
         ap (λ (x : State). entryOf x v) (R .is)
-        ∙ kept p u s (D .marks) (D .room-g) (D .room-p) (eq-eqb (at (s .mark) u) 2 (D .done))
+        ∙ kept p u s (D .marks) (D .room-g) (D .room-p) (D .room-l) (eq-eqb (at (s .mark) u) 2 (D .done))
         (eq-eqb (at (s .mark) (at (s .parent) u)) 2 (D .done-parent)) k v l (eq-eqb (at (s .mark) v) 2 d)
 
     done-stays : (v : ℕ) → at (s .mark) v ≡ 2 → at (r .mark) v ≡ 2
@@ -121,6 +122,7 @@ module _ {p : Problem} {u k : ℕ} {s r : State} (R : Rounded p u k s r) where
           room-g = omega (arith, D .room-g, size .g-same);
           room-p = omega (arith, D .room-p, size .parent-same);
           room-m = omega (arith, D .room-m, size .mark-same);
+          room-l = omega (arith, D .room-l, size .legs-same);
           marks = λ v h. rw mark-is (turned-le (p .near) u (s .mark) k v (omega (arith, D .room-m)) (D .marks v h));
           reached = still-reached;
           on = D .on;
@@ -129,6 +131,8 @@ module _ {p : Problem} {u k : ℕ} {s r : State} (R : Rounded p u k s r) where
           done-parent = rw q (done-stays (at (s .parent) u) (D .done-parent));
           g-most = rw (ap (λ (x : Entry). x .g) a) (D .g-most);
           g-most-parent = rw (q, ap (λ (x : Entry). x .g) c) (D .g-most-parent);
+          few-legs = rw (ap (λ (x : Entry). x .legs) a) (D .few-legs);
+          few-legs-parent = rw (q, ap (λ (x : Entry). x .legs) c) (D .few-legs-parent);
         }
 
 -- ---- the expansions do not matter to a round
@@ -164,6 +168,7 @@ module _ {p : Problem} (F : Fair p) {longest : ℕ} (L : FairLegs p longest) {wh
         room-g = H .tidy .room-g;
         room-p = H .tidy .room-p;
         room-m = rw length-set (H .tidy .room-m);
+        room-l = H .tidy .room-l;
         marks = marks-set (p .size) u (s .mark) (omega (arith, H .tidy .room-m, o .0)) (W .sane .marks);
         reached = λ v h q.
             W .sane .inv .sound v h
@@ -175,6 +180,8 @@ module _ {p : Problem} (F : Fair p) {longest : ℕ} (L : FairLegs p longest) {wh
         done-parent = eqb-true (at (marked u s .mark) (at (s .parent) u)) 2 (b .done);
         g-most = g-bound F (W .sane) H u (a .on) (a .seen);
         g-most-parent = g-bound F (W .sane) H (at (s .parent) u) (b .on) (b .seen);
+        few-legs = omega (arith, legs-bound F (W .sane) H u (a .on) (a .seen), going-room F W u c);
+        few-legs-parent = omega (arith, legs-bound F (W .sane) H (at (s .parent) u) (b .on) (b .seen), going-room F W u c);
       }
 
   -- after its round the loop goes on

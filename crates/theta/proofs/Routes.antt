@@ -16,7 +16,7 @@ use Rattle.theta.specs.Demands.{unitsAlong, IsRoute}
 use Rattle.theta.specs.Fair.{Fair, FairLegs}
 use Rattle.theta.specs.Back.{Back, root, leg, Traced}
 use Rattle.theta.proofs.Completeness.{Good, search-stopped}
-use Rattle.theta.proofs.Links.{Link, Linked}
+use Rattle.theta.proofs.Links.{Link, Linked, legs-back}
 use Rattle.theta.proofs.Held.{search-held}
 use Rattle.theta.proofs.Trails.{
   trail-start,
@@ -83,6 +83,10 @@ module _ {p : Problem} (F : Fair p) {longest : ℕ} {s : State} (G : Good p s) (
     leaves : (i : ℕ) → suc i ≤ R .legs → at (path p s) (suc i) ≢ p .start
     leaves i j = trail-leaves (R .back) (p .size) fits i j
 
+    -- it has one vertex more than the goal has legs
+    goal-legs : length (path p s) ≡ at (s .legs) (p .goal) + 1
+    goal-legs = omega (arith, size, legs-back G K (R .back) goal-seen)
+
     links : (i : ℕ) → suc i ≤ R .legs → Link p s (at (path p s) (suc i))
     links i j =
         K .links (at (path p s) (suc i)) (trail-on (R .back) (p .size) fits (F .ground .start-on) (suc i) j)
@@ -136,6 +140,10 @@ module _ {p : Problem} (F : Fair p) where
     -- a path that is found is a route, as long as the goal's g
     pub search-route : IsRoute p (path p ((search p) .state)) (at ((search p) .state .g) (p .goal))
     search-route = goal-route F (search-stopped F .sane) (search-held F W .linked) (goal-open f .0) (goal-open f .1)
+
+    -- and has one vertex more than the goal has legs
+    pub search-vertices : length (path p ((search p) .state)) ≡ at ((search p) .state .legs) (p .goal) + 1
+    search-vertices = goal-legs F (search-stopped F .sane) (search-held F W .linked) (goal-open f .0) (goal-open f .1)
 
     -- and passes only vertices that are reached
     pub search-between : (i : ℕ) → 0 < i → i + 1 < length (path p ((search p) .state))

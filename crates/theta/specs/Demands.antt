@@ -28,11 +28,18 @@ pub record IsRoute (p : Problem) (path : List ℕ) (units : ℕ) : Type 0 where
 
 -- ---- the work slices
 
--- an entry for each vertex; marks 0 unseen, 1 open, 2 expanded; an unseen vertex has g 0 and parent 0
+-- an entry for each vertex; marks 0 unseen, 1 open, 2 expanded; an unseen vertex has g 0, parent 0 and no legs
 pub record Work (p : Problem) (s : State) : Type 0 where
   pub g-size : length (s .g) ≡ p .size
   pub parent-size : length (s .parent) ≡ p .size
   pub mark-size : length (s .mark) ≡ p .size
+  pub legs-size : length (s .legs) ≡ p .size
   pub marks : (v : ℕ) → v < p .size → at (s .mark) v ≤ 2
   pub unseen-g : (v : ℕ) → v < p .size → at (s .mark) v ≡ 0 → at (s .g) v ≡ 0
   pub unseen-parent : (v : ℕ) → v < p .size → at (s .mark) v ≡ 0 → at (s .parent) v ≡ 0
+  pub unseen-legs : (v : ℕ) → v < p .size → at (s .mark) v ≡ 0 → at (s .legs) v ≡ 0
+
+-- the start has no legs, and any other vertex that is seen one more than its parent
+pub record LegsCounted (p : Problem) (s : State) : Type 0 where
+  pub start-legs : at (s .legs) (p .start) ≡ 0
+  pub seen-legs : (v : ℕ) → v < p .size → at (s .mark) v ≢ 0 → v ≢ p .start → at (s .legs) v ≡ at (s .legs) (at (s .parent) v) + 1

@@ -11,18 +11,19 @@ use Rattle.reach.specs.Turns.{at}
 pub record Rank : Type 0 where
   pub f : ℕ
   pub g : ℕ
+  pub legs : ℕ
   pub number : ℕ
 
-abbrev pub ranked : ℕ → ℕ → ℕ → Rank
-ranked f g v = record { f = f; g = g; number = v }
+abbrev pub ranked : ℕ → ℕ → ℕ → ℕ → Rank
+ranked f g legs v = record { f = f; g = g; legs = legs; number = v }
 
 -- x is less than y; or they are equal, and the rest decides
 abbrev pub lessOr : ℕ → ℕ → Bool → Bool
 lessOr x y rest = ltb x y || (eqb x y && rest)
 
--- least f; equal f: least g; equal g: least vertex number
+-- least f; equal f: least g; equal g: fewest legs; equal legs: least vertex number
 unfoldable pub sooner : Rank → Rank → Bool
-sooner a b = lessOr (a .f) (b .f) (lessOr (a .g) (b .g) (ltb (a .number) (b .number)))
+sooner a b = lessOr (a .f) (b .f) (lessOr (a .g) (b .g) (lessOr (a .legs) (b .legs) (ltb (a .number) (b .number))))
 
 -- ---- the vertex that is taken
 
@@ -40,5 +41,9 @@ least C (suc k) =
     cond (C .isOpen k && (eqb r (C .size) || sooner (C .rank k) (C .rank r))) k r
 
 -- of n vertices those with mark 1 are open; f = g + h
-abbrev pub contest : (n : ℕ) (h : ℕ → ℕ) (g mark : List ℕ) → Contest
-contest n h g mark = record { size = n; isOpen = λ v. eqb (at mark v) 1; rank = λ v. ranked (at g v + h v) (at g v) v }
+abbrev pub contest : (n : ℕ) (h : ℕ → ℕ) (g mark legs : List ℕ) → Contest
+contest n h g mark legs = record {
+  size = n;
+  isOpen = λ v. eqb (at mark v) 1;
+  rank = λ v. ranked (at g v + h v) (at g v) (at legs v) v;
+}

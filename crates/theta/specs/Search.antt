@@ -5,7 +5,7 @@ use Prim.Native.Nat.{ℕ, zero, suc, _+_}
 use lib.Dec.{eqb, ltb}
 use lib.ListN.{set, replicate}
 use Rattle.reach.specs.Turns.{at, Choice, nothing, arrived, vertex, Mode, Result, turns}
-use Rattle.theta.specs.Order.{Contest, least, contest}
+use Rattle.theta.specs.Order.{lessOr, Contest, least, contest}
 
 -- what is searched: how many vertices, the visible neighbours, sight, the length of a leg in units, and the two ends
 pub record Problem : Type 0 where
@@ -16,20 +16,22 @@ pub record Problem : Type 0 where
   pub start : ℕ
   pub goal : ℕ
 
--- g, parent and mark have an entry for each vertex; a mark is 0 unseen, 1 open, 2 expanded
+-- g, parent, mark and legs have an entry for each vertex; a mark is 0 unseen, 1 open, 2 expanded; legs are counted from the start
 pub record State : Type 0 where
   pub g : List ℕ
   pub parent : List ℕ
   pub mark : List ℕ
+  pub legs : List ℕ
   pub expansions : ℕ
   pub tests : ℕ
 
--- the start has g 0, itself as parent, and is open; the others are unseen, with g 0 and parent 0
+-- the start has g 0, itself as parent, and is open; the others are unseen, with g 0 and parent 0; all have no legs
 unfoldable pub initial : Problem → State
 initial p = record {
   g = replicate (p .size) 0;
   parent = set (replicate (p .size) 0) (p .start) (p .start);
   mark = set (replicate (p .size) 0) (p .start) 1;
+  legs = replicate (p .size) 0;
   expansions = 0;
   tests = 0;
 }
@@ -38,7 +40,7 @@ initial p = record {
 
 -- the open vertices; h is the leg length to the goal
 abbrev pub contestOf : Problem → State → Contest
-contestOf p s = contest (p .size) (λ v. p .len v (p .goal)) (s .g) (s .mark)
+contestOf p s = contest (p .size) (λ v. p .len v (p .goal)) (s .g) (s .mark) (s .legs)
 
 -- the open list is empty, or u is the goal, or u is another vertex
 abbrev pub choiceOf : Bool → Bool → ℕ → Choice
@@ -64,16 +66,21 @@ via p s u w = cond (p .sees (at (s .parent) u) w) (at (s .parent) u) u
 abbrev pub cost : Problem → State → ℕ → ℕ → ℕ
 cost p s c w = at (s .g) c + p .len c w
 
--- w is unseen, or the candidate g is strictly smaller
-unfoldable pub wins : Problem → State → ℕ → ℕ → Bool
-wins p s c w = eqb (at (s .mark) w) 0 || ltb (cost p s c w) (at (s .g) w)
+-- the candidate legs: one more than the candidate parent's
+abbrev pub legsBy : State → ℕ → ℕ
+legsBy s c = at (s .legs) c + 1
 
--- one sight test is made; if it wins, w gets that parent c and that g, and is open
+-- w is unseen, or the candidate g is strictly smaller, or it is equal and the candidate legs are fewer
+unfoldable pub wins : Problem → State → ℕ → ℕ → Bool
+wins p s c w = eqb (at (s .mark) w) 0 || lessOr (cost p s c w) (at (s .g) w) (ltb (legsBy s c) (at (s .legs) w))
+
+-- one sight test is made; if it wins, w gets that parent c with its legs and that g, and is open
 abbrev pub store : Bool → ℕ → ℕ → ℕ → State → State
 store true w c g s = record {
   g = set (s .g) w g;
   parent = set (s .parent) w c;
   mark = set (s .mark) w 1;
+  legs = set (s .legs) w (legsBy s c);
   expansions = s .expansions;
   tests = s .tests + 1;
 }
@@ -81,6 +88,7 @@ store false w c g s = record {
   g = s .g;
   parent = s .parent;
   mark = s .mark;
+  legs = s .legs;
   expansions = s .expansions;
   tests = s .tests + 1;
 }
@@ -105,6 +113,7 @@ close u s = record {
   g = s .g;
   parent = s .parent;
   mark = set (s .mark) u 2;
+  legs = s .legs;
   expansions = s .expansions + 1;
   tests = s .tests;
 }

@@ -44,6 +44,7 @@ toldRoute h =
       cells = v .cells;
       units = v .units;
       vertices = v .vertices;
+      legs = v .legs;
       expansions = v .expansions;
       tests = v .tests;
     }

@@ -134,6 +134,7 @@ fn refuse_route(number: u64, place: u64) -> Found
         cells: 0.0,
         units: 0,
         vertices: 0,
+        legs: 0,
         expansions: 0,
         tests: 0,
     }
@@ -148,6 +149,7 @@ pub fn tell_route(answer: router::Answer) -> Found
             cells,
             units,
             vertices,
+            legs,
             expansions,
             tests,
         } => Found {
@@ -157,6 +159,7 @@ pub fn tell_route(answer: router::Answer) -> Found
             cells,
             units,
             vertices: vertices as u64,
+            legs: legs as u64,
             expansions,
             tests,
         },
@@ -167,6 +170,7 @@ pub fn tell_route(answer: router::Answer) -> Found
             cells: 0.0,
             units: 0,
             vertices: 0,
+            legs: 0,
             expansions,
             tests,
         },

@@ -45,6 +45,7 @@ pub struct Found {
     pub cells: f64,
     pub units: u64,
     pub vertices: u64,
+    pub legs: u64,
     pub expansions: u64,
     pub tests: u64,
 }

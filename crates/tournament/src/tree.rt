@@ -19,13 +19,13 @@ pub struct Leader {
 }
 
 // Of two leaders, the one that is taken first.
-fn winner(a: Leader, b: Leader, g: &[u64]) -> Leader
-    requires { ⌜ (a .vertex < length (now g)) × (b .vertex < length (now g)) ⌝ }
-    ensures { λ r. ⌜ Won (seen (now (g .entry))) (a .vertex) (a .f) (b .vertex) (b .f) (r .vertex) (r .f) ⌝ }
+fn winner(a: Leader, b: Leader, g: &[u64], legs: &[Vertex]) -> Leader
+    requires { ⌜ (a .vertex < numbers (now g) (now legs)) × (b .vertex < numbers (now g) (now legs)) ⌝ }
+    ensures { λ r. ⌜ Won (seen (now (g .entry)) (now (legs .entry))) (a .vertex) (a .f) (b .vertex) (b .f) (r .vertex) (r .f) ⌝ }
 {
     let w = b.vertex;
     if b.f <= a.f {
-        if ahead(b.f, g[w], w, a.f, a.vertex, g) {
+        if ahead(b.f, g[w], legs[w], w, a.f, a.vertex, g, legs) {
             return b;
         }
     }
@@ -40,25 +40,27 @@ fn sibling(i: usize) -> usize
     i ^ 1
 }
 
-// The vertex v of the leaf, with this f and g, opens, or was open with a larger f: it climbs while it is ahead.
+// The vertex v of the leaf, with this f, g and count of legs, opens, or was open with a later rank: it climbs while it is ahead.
 pub fn enter(
     leaf: usize,
     v: usize,
     own: u64,
+    count: Vertex,
     f: u64,
     g: &[u64],
+    legs: &[Vertex],
     leads: &mut [Vertex],
     keys: &mut [u64],
 )
     requires { ⌜ Room leaf (now leads) (now keys) ⌝ }
-    requires { ⌜ Seated (numbers (now g)) (now leads) ⌝ }
-    requires { ⌜ v < numbers (now g) ⌝ }
-    ensures { λ r. ⌜ Entered (seen (now (g .entry))) (numbers (now (g .entry))) leaf (ranked f own v) (now (leads .entry)) (now (keys .entry)) (now (leads .exit)) (now (keys .exit)) ⌝ }
+    requires { ⌜ Seated (numbers (now g) (now legs)) (now leads) ⌝ }
+    requires { ⌜ v < numbers (now g) (now legs) ⌝ }
+    ensures { λ r. ⌜ Entered (seen (now (g .entry)) (now (legs .entry))) (numbers (now (g .entry)) (now (legs .entry))) leaf (ranked f own count v) (now (leads .entry)) (now (keys .entry)) (now (leads .exit)) (now (keys .exit)) ⌝ }
 {
     let mut i = leaf;
     while 0 < i {
         let key = keys[i];
-        if !ahead(f, own, v, key, leads[i] as usize, g) {
+        if !ahead(f, own, count, v, key, leads[i] as usize, g, legs) {
             return;
         }
         leads[i] = v as Vertex;
@@ -68,11 +70,18 @@ pub fn enter(
 }
 
 // The leaf has this leader now, and each node above it the sooner of its two.
-pub fn renew(leaf: usize, leader: Leader, g: &[u64], leads: &mut [Vertex], keys: &mut [u64])
+pub fn renew(
+    leaf: usize,
+    leader: Leader,
+    g: &[u64],
+    legs: &[Vertex],
+    leads: &mut [Vertex],
+    keys: &mut [u64],
+)
     requires { ⌜ Room leaf (now leads) (now keys) ⌝ }
-    requires { ⌜ Seated (numbers (now g)) (now leads) ⌝ }
-    requires { ⌜ leader .vertex < numbers (now g) ⌝ }
-    ensures { λ r. ⌜ Renewed (seen (now (g .entry))) (numbers (now (g .entry))) leaf (leader .vertex) (leader .f) (now (leads .entry)) (now (keys .entry)) (now (leads .exit)) (now (keys .exit)) ⌝ }
+    requires { ⌜ Seated (numbers (now g) (now legs)) (now leads) ⌝ }
+    requires { ⌜ leader .vertex < numbers (now g) (now legs) ⌝ }
+    ensures { λ r. ⌜ Renewed (seen (now (g .entry)) (now (legs .entry))) (numbers (now (g .entry)) (now (legs .entry))) leaf (leader .vertex) (leader .f) (now (leads .entry)) (now (keys .entry)) (now (leads .exit)) (now (keys .exit)) ⌝ }
 {
     let mut i = leaf;
     leads[i] = leader.vertex as Vertex;
@@ -84,7 +93,7 @@ pub fn renew(leaf: usize, leader: Leader, g: &[u64], leads: &mut [Vertex], keys:
             vertex: leads[s] as usize,
             f: keys[s],
         };
-        first = winner(first, beside, g);
+        first = winner(first, beside, g, legs);
         i = i / 2;
         leads[i] = first.vertex as Vertex;
         keys[i] = first.f;

@@ -16,16 +16,17 @@ use Rattle.open.specs.Groups.{nodesOf}
 use Rattle.open.specs.Marked.{toGoal, boardContest, Sited, Blank, Lower, Opens}
 use Rattle.open.proofs.Listing.{listed-empty, listed-least, listed-on, listed-none, no-stale-key}
 use Rattle.reach.specs.Turns.{at, vertex, Result, turns}
-use Rattle.round.specs.declared.Request.{Request}
-use Rattle.round.specs.declared.Spot.{Spot}
+use Rattle.offers.specs.declared.Request.{Request}
+use Rattle.offers.specs.declared.Spot.{Spot}
 use Rattle.theta.specs.Search.{State, initial, contestOf, basic, choose}
 use Rattle.theta.specs.Fair.{Fair, FairLegs}
 use Rattle.theta.specs.Lent.{state, counting, marked, Searched, Rounded, Begun, Begins}
 use Rattle.problem.specs.Problem.{problem}
 use Rattle.problem.specs.Sizes.{longest}
-use Rattle.round.specs.Request.{boardOf, asked, sizeOf, Asked, Placed}
-use Rattle.turns.specs.Turns.{Cleared, Taking}
-use Rattle.round.specs.Round.{Taken, ListedFor}
+use Rattle.offers.specs.Request.{boardOf, asked, sizeOf, Asked, Placed}
+use Rattle.clearing.specs.Clearing.{Cleared}
+use Rattle.turns.specs.Turns.{Taking}
+use Rattle.offers.specs.Offers.{Taken, ListedFor}
 use Rattle.theta.proofs.Begins.{beyond, begins-initial, begins-beyond, beyond-initial}
 use Rattle.theta.proofs.Choosing.{chosen-nothing, chosen-arrived, chosen-vertex}
 use Rattle.theta.proofs.Held.{Going, tests-bound, going-start, going-nothing, going-arrived, going-room}
@@ -37,7 +38,7 @@ use Rattle.problem.proofs.Fair.{board-fair, board-legs}
 -- the loop is at this state of the search that gives the whole, and the open list is right: so no key is stale (`turn-no-stale-key`)
 pub record Finding (cells : List ℕ) (q : Request) (whole : Result State) (s : State) (leads keys : List ℕ) : Type 0 where
   pub going : Going (asked cells q) (longest (q .width) (q .height)) whole s
-  pub listed : ListedFor q (s .g) (s .mark) leads keys
+  pub listed : ListedFor q (s .g) (s .mark) (s .legs) leads keys
 
 -- what the loop's beginning makes of the whole
 abbrev pub wholeFrom : List ℕ → Request → State → Result State
@@ -94,19 +95,19 @@ module _ {cells : List ℕ} {q : Request} (A : Asked cells q) where
     rest part = drop (sizeOf q) (part before)
 
     abbrev longer : State → State
-    longer s = beyond s (rest (λ x. x .g)) (rest (λ x. x .parent)) (rest (λ x. x .mark))
+    longer s = beyond s (rest (λ x. x .g)) (rest (λ x. x .parent)) (rest (λ x. x .mark)) (rest (λ x. x .legs))
 
-    begun-state : state (after .g) (after .parent) (after .mark) 0 0 ≡ longer (initial (asked cells q))
+    begun-state : state (after .g) (after .parent) (after .mark) (after .legs) 0 0 ≡ longer (initial (asked cells q))
     unfolding problem
     begun-state =
-        rw (B .g-is, B .parent-is, B .mark-is) (sym (beyond-initial fair (rest (λ x. x .g)) (rest (λ x. x .parent)) (rest (λ x. x .mark))))
+        rw (B .g-is, B .parent-is, B .mark-is, B .legs-is) (sym (beyond-initial fair (rest (λ x. x .g)) (rest (λ x. x .parent)) (rest (λ x. x .mark)) (rest (λ x. x .legs))))
 
-    pub begun-begins : Begins (asked cells q) (state (after .g) (after .parent) (after .mark) 0 0)
-    begun-begins = rw begun-state (begins-beyond fair (begins-initial fair) (rest (λ x. x .g)) (rest (λ x. x .parent)) (rest (λ x. x .mark)))
+    pub begun-begins : Begins (asked cells q) (state (after .g) (after .parent) (after .mark) (after .legs) 0 0)
+    begun-begins = rw begun-state (begins-beyond fair (begins-initial fair) (rest (λ x. x .g)) (rest (λ x. x .parent)) (rest (λ x. x .mark)) (rest (λ x. x .legs)))
 
     -- where the loop ends, so does the search
     pub found-whole : {found : Bool} {s : State}
-        → wholeFrom cells q (state (after .g) (after .parent) (after .mark) 0 0) ≡ record { found = found; state = s }
+        → wholeFrom cells q (state (after .g) (after .parent) (after .mark) (after .legs) 0 0) ≡ record { found = found; state = s }
         → Searched (asked cells q) before s found
     unfolding problem
     found-whole w = searched fair before (ap (turns (basic (asked cells q)) (suc (sizeOf q))) (sym begun-state) ∙ w)
@@ -127,25 +128,28 @@ module _ {cells : List ℕ} {q : Request} (A : Asked cells q) where
     unseen : (v : ℕ) → v < sizeOf q → at (after .mark) v ≡ 0
     unseen v l = rw (C .mark-is) (zeros-then (sizeOf q) (before .mark) v l)
 
-    pub cleared-listed : {leads keys : List ℕ} → Blank (q .width) (q .height) leads keys → ListedFor q (after .g) (after .mark) leads keys
+    pub cleared-listed : {leads keys : List ℕ} → Blank (q .width) (q .height) leads keys → ListedFor q (after .g) (after .mark) (after .legs) leads keys
     cleared-listed B =
-        listed-empty (rw (C .g-is) (zeros-room (sizeOf q) (before .g))) (rw (C .mark-is) (zeros-room (sizeOf q) (before .mark))) unseen B
+        listed-empty (rw (C .g-is) (zeros-room (sizeOf q) (before .g))) (rw (C .mark-is) (zeros-room (sizeOf q) (before .mark)))
+        (rw (C .legs-is) (zeros-room (sizeOf q) (before .legs))) unseen B
 
-    pub cleared-lower : Lower (q .width) (q .sx) (q .sy) start 0 (after .g) (after .mark)
+    pub cleared-lower : Lower (q .width) (q .sx) (q .sy) start 0 0 (after .g) (after .mark) (after .legs)
     cleared-lower = record { is = at-start; small = omega arith; less = λ o. absurd (omega (arith, unseen start start-on)) }
 
     -- and then the search has begun
-    pub cleared-begun : {g mark leads keys : List ℕ} → Opens (q .width) (q .height) (q .gx) (q .gy) start 0 (after .g) (after .mark) g mark leads keys
-        → Begun (sizeOf q) start before (state g (after .parent) mark 0 0)
+    pub cleared-begun : {g mark legs leads keys : List ℕ}
+        → Opens (q .width) (q .height) (q .gx) (q .gy) start 0 0 (after .g) (after .mark) (after .legs) g mark legs leads keys
+        → Begun (sizeOf q) start before (state g (after .parent) mark legs 0 0)
     cleared-begun O = record {
       g-is = O .g-is ∙ ap (λ (l : List ℕ). set l start 0) (C .g-is) ∙ set-zero (sizeOf q) (before .g) start start-on;
       parent-is = C .parent-is;
       mark-is = O .mark-is ∙ ap (λ (l : List ℕ). set l start 1) (C .mark-is);
+      legs-is = O .legs-is ∙ ap (λ (l : List ℕ). set l start 0) (C .legs-is) ∙ set-zero (sizeOf q) (before .legs) start start-on;
     }
 
   -- ---- a turn
 
-  pub finding-start : {s : State} {leads keys : List ℕ} → Begins (asked cells q) s → ListedFor q (s .g) (s .mark) leads keys
+  pub finding-start : {s : State} {leads keys : List ℕ} → Begins (asked cells q) s → ListedFor q (s .g) (s .mark) (s .legs) leads keys
       → Finding cells q (wholeFrom cells q s) s leads keys
   unfolding problem
   finding-start B D = record { going = going-start fair B; listed = D }
@@ -161,7 +165,7 @@ module _ {cells : List ℕ} {q : Request} (A : Asked cells q) where
     turn-no-stale-key = no-stale-key (W .listed)
 
     -- the contest of the search is the board's
-    same-contest : boardContest (q .width) (q .height) (q .gx) (q .gy) (s .g) (s .mark) ≡ contestOf (asked cells q) s
+    same-contest : boardContest (q .width) (q .height) (q .gx) (q .gy) (s .g) (s .mark) (s .legs) ≡ contestOf (asked cells q) s
     unfolding problem
     same-contest = rw (column-number (q .width) (q .gx) (q .gy) (A .goal .x-on), row-number (q .width) (q .gx) (q .gy) (A .goal .x-on)) refl
 
@@ -206,7 +210,7 @@ module _ {cells : List ℕ} {q : Request} (A : Asked cells q) where
 
         -- it has been expanded
         pub finding-next : {r : State} {leads′ keys′ : List ℕ} → Rounded (asked cells q) v (sizeOf q) (marked v (counting 0 s)) r
-            → ListedFor q (r .g) (r .mark) leads′ keys′ → Finding cells q whole (counting (s .expansions + 1) r) leads′ keys′
+            → ListedFor q (r .g) (r .mark) (r .legs) leads′ keys′ → Finding cells q whole (counting (s .expansions + 1) r) leads′ keys′
         unfolding problem
         finding-next R D = record { going = going-round fair legs (W .going) v chosen R; listed = D }
 

@@ -1,74 +1,26 @@
 // Calls for the search, which say what they require. Each turn takes the first open vertex, until that is the goal or nothing is open.
 ghost use mathlib.Core.Path.{_≡_};
-ghost use mathlib.Core.List.{_++_};
 ghost use Prim.Native.Nat.{suc, _^_, _≤_, _<_};
-ghost use lib.ListN.{length, replicate, drop};
-ghost use Rattle.board.specs.Limits.{largestSide, mostVertices};
+ghost use Rattle.board.specs.Limits.{largestSide};
 ghost use Rattle.board.specs.Board.{columnOf, rowOf};
 ghost use Rattle.reach.specs.Turns.{turns};
 ghost use Rattle.table.specs.Lengths.{Known};
 ghost use Rattle.theta.specs.Search.{basic};
-ghost use Rattle.round.specs.Request.{asked, sizeOf, diagonal, Asked};
+ghost use Rattle.offers.specs.Request.{asked, sizeOf, diagonal, Asked};
 ghost use Rattle.theta.specs.Lent.{state, marked, Begins, Rounded};
-ghost use Rattle.turns.specs.Turns.{Cleared, Taking};
-ghost use Rattle.round.specs.Round.{ListedFor};
+ghost use Rattle.turns.specs.Turns.{Taking};
+ghost use Rattle.offers.specs.Offers.{ListedFor};
 use crate::Outcome;
 use board::Vertex;
 use board::inner::column_of;
 use board::inner::number_of;
 use board::inner::row_of;
+use offers::Request;
+use offers::Spot;
 use open::list::close_vertex;
-use round::Request;
-use round::Spot;
 use round::inner::round;
 use tournament::tree::NO_KEY;
 use tournament::tree::first;
-
-// Zeros for the first n of each; what lies beyond is kept. A loop for each slice, since slices may overlap as far as the compiler knows.
-fn clear_g(n: usize, g: &mut [u64])
-    requires { ⌜ (n ≤ length (now g)) × (n ≤ mostVertices) ⌝ }
-    ensures { λ r. ⌜ now (g .exit) ≡ replicate n 0 ++ drop n (now (g .entry)) ⌝ }
-{
-    let mut v = 0;
-    while v < n {
-        g[v] = 0;
-        v += 1;
-    }
-}
-
-fn clear_parents(n: usize, parents: &mut [Vertex])
-    requires { ⌜ (n ≤ length (now parents)) × (n ≤ mostVertices) ⌝ }
-    ensures { λ r. ⌜ now (parents .exit) ≡ replicate n 0 ++ drop n (now (parents .entry)) ⌝ }
-{
-    let mut v = 0;
-    while v < n {
-        parents[v] = 0;
-        v += 1;
-    }
-}
-
-fn clear_marks(n: usize, marks: &mut [u8])
-    requires { ⌜ n ≤ length (now marks) ⌝ }
-    ensures { λ r. ⌜ now (marks .exit) ≡ replicate n 0 ++ drop n (now (marks .entry)) ⌝ }
-{
-    let mut v = 0;
-    while v < n {
-        marks[v] = 0;
-        v += 1;
-    }
-}
-
-// No vertex is seen, and the start has itself as parent; what lies beyond the n vertices is kept.
-pub fn begin(n: usize, start: Vertex, g: &mut [u64], parents: &mut [Vertex], marks: &mut [u8])
-    requires { ⌜ (start < n) × (n ≤ mostVertices) ⌝ }
-    requires { ⌜ (n ≤ length (now g)) × (n ≤ length (now parents)) × (n ≤ length (now marks)) ⌝ }
-    ensures { λ r. ⌜ Cleared n start (state (now (g .entry)) (now (parents .entry)) (now (marks .entry)) 0 0) (state (now (g .exit)) (now (parents .exit)) (now (marks .exit)) 0 0) ⌝ }
-{
-    clear_g(n, g);
-    clear_parents(n, parents);
-    clear_marks(n, marks);
-    parents[start as usize] = start;
-}
 
 // The place of a vertex, by its number. The only divisions by a number that is not known beforehand are here.
 fn spot_of(width: usize, v: Vertex) -> Spot
@@ -92,17 +44,18 @@ fn expand(
     g: &mut [u64],
     parents: &mut [Vertex],
     marks: &mut [u8],
+    legs: &mut [Vertex],
     leads: &mut [Vertex],
     keys: &mut [u64],
     table: &[u32],
 ) -> u64
     requires { ⌜ Asked (now cells) request ⌝ }
-    requires { ⌜ Taking (now cells) request v (state (now g) (now parents) (now marks) 0 tests) ⌝ }
+    requires { ⌜ Taking (now cells) request v (state (now g) (now parents) (now marks) (now legs) 0 tests) ⌝ }
     requires { ⌜ tests < 2 ^ 62 ⌝ }
-    requires { ⌜ ListedFor request (now g) (now marks) (now leads) (now keys) ⌝ }
+    requires { ⌜ ListedFor request (now g) (now marks) (now legs) (now leads) (now keys) ⌝ }
     requires { ⌜ Known (diagonal request) (now table) ⌝ }
-    ensures { λ r. ⌜ Rounded (asked (now (cells .entry)) request) v (sizeOf request) (marked v (state (now (g .entry)) (now (parents .entry)) (now (marks .entry)) 0 tests)) (state (now (g .exit)) (now (parents .exit)) (now (marks .exit)) 0 r) ⌝ }
-    ensures { λ r. ⌜ ListedFor request (now (g .exit)) (now (marks .exit)) (now (leads .exit)) (now (keys .exit)) ⌝ }
+    ensures { λ r. ⌜ Rounded (asked (now (cells .entry)) request) v (sizeOf request) (marked v (state (now (g .entry)) (now (parents .entry)) (now (marks .entry)) (now (legs .entry)) 0 tests)) (state (now (g .exit)) (now (parents .exit)) (now (marks .exit)) (now (legs .exit)) 0 r) ⌝ }
+    ensures { λ r. ⌜ ListedFor request (now (g .exit)) (now (marks .exit)) (now (legs .exit)) (now (leads .exit)) (now (keys .exit)) ⌝ }
 {
     let u = spot_of(request.width, v as Vertex);
     let parent = spot_of(request.width, parents[v]);
@@ -116,6 +69,7 @@ fn expand(
         v,
         g,
         marks,
+        legs,
         leads,
         keys,
         table,
@@ -129,6 +83,7 @@ fn expand(
         g,
         parents,
         marks,
+        legs,
         leads,
         keys,
         table,
@@ -142,15 +97,16 @@ pub fn run(
     g: &mut [u64],
     parents: &mut [Vertex],
     marks: &mut [u8],
+    legs: &mut [Vertex],
     leads: &mut [Vertex],
     keys: &mut [u64],
     table: &[u32],
 ) -> Outcome
     requires { ⌜ Asked (now cells) request ⌝ }
-    requires { ⌜ Begins (asked (now cells) request) (state (now g) (now parents) (now marks) 0 0) ⌝ }
-    requires { ⌜ ListedFor request (now g) (now marks) (now leads) (now keys) ⌝ }
+    requires { ⌜ Begins (asked (now cells) request) (state (now g) (now parents) (now marks) (now legs) 0 0) ⌝ }
+    requires { ⌜ ListedFor request (now g) (now marks) (now legs) (now leads) (now keys) ⌝ }
     requires { ⌜ Known (diagonal request) (now table) ⌝ }
-    ensures { λ r. ⌜ turns (basic (asked (now (cells .entry)) request)) (suc (sizeOf request)) (state (now (g .entry)) (now (parents .entry)) (now (marks .entry)) 0 0) ≡ record { found = r .found; state = state (now (g .exit)) (now (parents .exit)) (now (marks .exit)) (r .expansions) (r .tests) } ⌝ }
+    ensures { λ r. ⌜ turns (basic (asked (now (cells .entry)) request)) (suc (sizeOf request)) (state (now (g .entry)) (now (parents .entry)) (now (marks .entry)) (now (legs .entry)) 0 0) ≡ record { found = r .found; state = state (now (g .exit)) (now (parents .exit)) (now (marks .exit)) (now (legs .exit)) (r .expansions) (r .tests) } ⌝ }
 {
     let goal = number_of(request.width, request.gx, request.gy) as usize;
     let mut expansions: u64 = 0;
@@ -173,6 +129,7 @@ pub fn run(
             g,
             parents,
             marks,
+            legs,
             leads,
             keys,
             table,

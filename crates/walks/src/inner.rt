@@ -7,15 +7,15 @@ ghost use Rattle.legs.specs.Sight.{sees};
 ghost use Rattle.legs.specs.Stops.{firstStop};
 ghost use Rattle.legs.specs.Neighbours.{neighbours};
 ghost use Rattle.legs.specs.Inner.{EndsOn};
+use board::inner::is_cell_blocked;
 use edges::inner::first_walled;
 use edges::inner::stop_after;
-use walls::leg;
+use legs::Stop;
 use slants::inner::first_blocked;
 use slants::inner::stop_at;
+use walls::leg;
 use walls::walls::is_column_wall;
 use walls::walls::is_row_wall;
-use board::inner::is_cell_blocked;
-use legs::Stop;
 
 // What stops the leg first, counted from its first end.
 pub fn first_stop(

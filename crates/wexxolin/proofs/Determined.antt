@@ -12,7 +12,7 @@ use Rattle.told.specs.declared.Found.{Found}
 use Rattle.told.specs.declared.Sides.{Sides}
 use Rattle.wexxolin.specs.Calls.{RoutedForC, ReadForC, WroteForC, LineForC}
 
--- of `wexxolin_route_1`
+-- of `wexxolin_route_2`
 pub route-determined : {b : Board} {sx sy gx gy : ℕ} {before after₁ after₂ : Slices} {r s : Found}
     → RoutedForC b sx sy gx gy before after₁ r → RoutedForC b sx sy gx gy before after₂ s → (r ≡ s) × (after₁ ≡ after₂)
 route-determined {b} {sx} {sy} {gx} {gy} {before} R S =

@@ -2,7 +2,7 @@
 use Prim.Native.Nat.{ℕ, _+_, _*_}
 
 abbrev pub major : ℕ
-major = 1
+major = 2
 
 abbrev pub minor : ℕ
 minor = 0
@@ -10,6 +10,6 @@ minor = 0
 abbrev pub patch : ℕ
 patch = 0
 
--- 10000 is version 1.0.0
+-- 20000 is version 2.0.0
 abbrev pub version : ℕ
 version = major * 10000 + minor * 100 + patch

@@ -16,7 +16,6 @@ use job::read_board;
 use job::read_net;
 use length::Direction;
 use length::Length;
-use writing::write_line;
 use packed::count_blocked;
 use packed::read_cells;
 use packed::write_packed;
@@ -42,9 +41,10 @@ use told::inner::tell_length;
 use told::inner::tell_net;
 use told::inner::tell_route;
 use told::inner::tell_sight;
+use writing::write_line;
 
-// The version of the library, 10000 for 1.0.0.
-const VERSION: u64 = 10000;
+// The version of the library, 20000 for 2.0.0.
+const VERSION: u64 = 20000;
 
 // Which version the library is.
 #[no_mangle]
@@ -104,7 +104,7 @@ pub extern "C" fn wexxolin_direction_between_1(ax: usize, ay: usize, bx: usize, 
 
 // The route from (sx, sy) to (gx, gy).
 #[no_mangle]
-pub extern "C" fn wexxolin_route_1(
+pub extern "C" fn wexxolin_route_2(
     cells: &[u8],
     width: usize,
     height: usize,
@@ -115,9 +115,10 @@ pub extern "C" fn wexxolin_route_1(
     g: &mut [u64],
     parents: &mut [Vertex],
     marks: &mut [u8],
+    legs: &mut [Vertex],
     path: &mut [Vertex],
 ) -> Found
-    ensures { λ r. ⌜ RoutedForC (board (now (cells .entry)) width height) sx sy gx gy (slices (now (g .entry)) (now (parents .entry)) (now (marks .entry)) (now (path .entry))) (slices (now (g .exit)) (now (parents .exit)) (now (marks .exit)) (now (path .exit))) r ⌝ }
+    ensures { λ r. ⌜ RoutedForC (board (now (cells .entry)) width height) sx sy gx gy (slices (now (g .entry)) (now (parents .entry)) (now (marks .entry)) (now (legs .entry)) (now (path .entry))) (slices (now (g .exit)) (now (parents .exit)) (now (marks .exit)) (now (legs .exit)) (now (path .exit))) r ⌝ }
 {
     tell_route(route(
         cells,
@@ -130,6 +131,7 @@ pub extern "C" fn wexxolin_route_1(
         g,
         parents,
         marks,
+        legs,
         path,
     ))
 }

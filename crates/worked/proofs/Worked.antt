@@ -30,7 +30,7 @@ worked =
     (refl, (refl, (refl, (refl, (refl, (refl, (refl, (refl, (refl, (refl, (refl, (refl, (refl, (refl, (refl, (refl, (refl, (refl, tt))))))))))))))))))
 
 -- net 1 of the example job: 3 expanded, 10 tests, by (1, 1)
-pub net-1 : (routeRow corner 0 0 2 1 enough ≡ found 2531486 3 3 10)
+pub net-1 : (routeRow corner 0 0 2 1 enough ≡ found 2531486 3 2 3 10)
     × (path (problem corner 0 0 2 1) ((search (problem corner 0 0 2 1)) .state) ≡ 0 ∷ 4 ∷ 5 ∷ [])
 unfolding unitsOf root rootIn blocked side positive negative someCorner spans crossed every cellsFree rowWall columnWall between edgesOpen pinched strictlyInside verticesOpen sees admitted
     neighbours visible turns initial sooner least choose wins around close expand search trail problem firstBad boardRows endRows workRow searchRow routeRow

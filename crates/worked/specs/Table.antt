@@ -25,7 +25,7 @@ pub data Row : Type 0 where
 
 -- lent slices with an entry for each vertex of the largest board
 abbrev pub enough : Slices
-enough = let l : List ℕ = replicate mostVertices 0 in slices l l l l
+enough = let l : List ℕ = replicate mostVertices 0 in slices l l l l l
 
 -- the definitions answer the question so
 abbrev pub Holds : Row → Type 0
@@ -57,7 +57,7 @@ full = board (1 ∷ []) 1 1
 abbrev pub gate : Board
 gate = board (0 ∷ 1 ∷ 0 ∷ []) 3 1
 
--- units, vertices, expanded and tests of a path; expanded and tests without one
+-- units, vertices, legs, expanded and tests of a path; expanded and tests without one
 abbrev pub table : List Row
 table =
     lengthOf (pos 0) (pos 0) 0
@@ -74,8 +74,8 @@ table =
     ∷ stopOf corner 1 0 2 0 (Edge 1 0 2 0)
     ∷ stopOf corner 2 0 0 0 (Edge 2 0 1 0)
     ∷ stopOf gap 0 0 2 2 (Vertex 1 1)
-    ∷ routeOf free 0 0 1 1 (found 1482910 2 1 3)
+    ∷ routeOf free 0 0 1 1 (found 1482910 2 1 1 3)
     ∷ routeOf full 0 0 1 1 (none 1 0)
-    ∷ routeOf full 0 0 0 0 (found 0 1 0 0)
+    ∷ routeOf full 0 0 0 0 (found 0 1 0 0 0)
     ∷ routeOf gate 0 0 3 0 (none 4 6)
     ∷ []

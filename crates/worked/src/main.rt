@@ -70,6 +70,7 @@ fn route_row(
     let mut g = [0u64; MOST];
     let mut parents = [0 as Vertex; MOST];
     let mut marks = [0u8; MOST];
+    let mut legs = [0 as Vertex; MOST];
     io::write_all(1, question);
     match route(
         cells,
@@ -82,12 +83,14 @@ fn route_row(
         &mut g,
         &mut parents,
         &mut marks,
+        &mut legs,
         path,
     ) {
         router::Answer::Found {
             cells: _,
             units,
             vertices,
+            legs: _,
             expansions,
             tests,
         } => {

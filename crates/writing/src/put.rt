@@ -4,10 +4,10 @@ ghost use Rattle.lines.specs.Lines.{decimal, vertexField, vertexFields, spaced}
 ghost use Rattle.lines.specs.Lines.{netLine, noneLine, refusedLine, refusedTwiceLine};
 ghost use Rattle.lines.specs.Answers.{bytesOf};
 ghost use Rattle.lines.specs.Inner.{Put, Room, numbered, pathEnd};
-use lines::Line;
+use board::Vertex;
 use fitting::inner::count_digits;
 use fitting::inner::place_of;
-use board::Vertex;
+use lines::Line;
 
 const NEWLINE: u8 = b'\n';
 

@@ -5,21 +5,21 @@ use mathlib.Core.List.{List}
 use Prim.Native.Nat.{ℕ, _+_, _-_, _*_, _≤_, _<_, min}
 use native.Mathlib.Omega.{arith}
 use Rattle.laws.proofs.Tests.{order}
-use Rattle.round.specs.declared.Request.{Request}
-use Rattle.round.specs.declared.Spot.{Spot}
+use Rattle.offers.specs.declared.Request.{Request}
+use Rattle.offers.specs.declared.Spot.{Spot}
 use Rattle.problem.specs.Problem.{problem}
-use Rattle.round.specs.Request.{asked, sizeOf}
+use Rattle.offers.specs.Request.{asked, sizeOf}
 use Rattle.theta.specs.Search.{State}
 use Rattle.theta.specs.Lent.{Rounded, Looked}
-use Rattle.round.specs.Round.{Taken, ListedFor}
+use Rattle.offers.specs.Offers.{Taken, ListedFor}
 use Rattle.theta.proofs.Tidy.{SameSizes}
 use Rattle.theta.proofs.Rounds.{rounded-none, rounded-more, rounded-skip, rounded-sizes, rounded-tests, rounded-parent, rounded-ready}
-use Rattle.round.proofs.Places.{rows-le, far-above, far-below, far-beside}
+use Rattle.offers.proofs.Places.{rows-le, far-above, far-below, far-beside}
 
 -- since the round began, the vertices below k have been looked at, and the open list is right
 pub record Passed (cells : List ℕ) (q : Request) (u : Spot) (before : State) (k : ℕ) (s : State) (leads keys : List ℕ) : Type 0 where
   pub rounded : Rounded (asked cells q) (u .number) k before s
-  pub listed : ListedFor q (s .g) (s .mark) leads keys
+  pub listed : ListedFor q (s .g) (s .mark) (s .legs) leads keys
 
 -- wherever the round began: if it had passed j then, it has passed k now
 pub record Onward (cells : List ℕ) (q : Request) (u : Spot) (j : ℕ) (r : State) (leads keys : List ℕ) (k : ℕ) (s : State) (leads′ keys′ : List ℕ)
@@ -28,7 +28,7 @@ pub record Onward (cells : List ℕ) (q : Request) (u : Spot) (j : ℕ) (r : Sta
 
 -- one more vertex
 pub passed-more : {cells : List ℕ} {q : Request} {u : Spot} {before : State} {k : ℕ} {r s : State} {leads keys leads′ keys′ : List ℕ}
-    → Passed cells q u before k r leads keys → Looked (asked cells q) (u .number) k r s → ListedFor q (s .g) (s .mark) leads′ keys′
+    → Passed cells q u before k r leads keys → Looked (asked cells q) (u .number) k r s → ListedFor q (s .g) (s .mark) (s .legs) leads′ keys′
     → Passed cells q u before (k + 1) s leads′ keys′
 passed-more P L A = record { rounded = rounded-more (P .rounded) L; listed = A }
 
@@ -38,7 +38,7 @@ below-size q y l = omega (arith, rows-le (q .width + 1) (q .height + 1) y l)
 
 module _ {cells : List ℕ} {q : Request} {u from : Spot} {before : State} (T : Taken cells q u from before) where
   -- the rows above are not beside u
-  pub passed-top : {leads keys : List ℕ} → ListedFor q (before .g) (before .mark) leads keys
+  pub passed-top : {leads keys : List ℕ} → ListedFor q (before .g) (before .mark) (before .legs) leads keys
       → Passed cells q u before ((u .y - 1) * (q .width + 1)) before leads keys
   passed-top A = record {
     rounded = rounded-skip (rounded-none (asked cells q) (u .number) before) ((u .y - 1) * (q .width + 1)) (omega arith)

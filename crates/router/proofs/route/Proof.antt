@@ -18,11 +18,11 @@ abbrev asked : tie.Start → Board
 asked s = board (now (s .args .cells)) (s .args .width) (s .args .height)
 
 abbrev lent : tie.Start → Slices
-lent s = slices (now (s .args .g)) (now (s .args .parents)) (now (s .args .marks)) (now (s .args .path))
+lent s = slices (now (s .args .g)) (now (s .args .parents)) (now (s .args .marks)) (now (s .args .legs)) (now (s .args .path))
 
 -- where the checks have been made, and where the call began
 abbrev began : tie.After-check-leg → tie.Start
-began c = c .before .before .before .before .before .before
+began c = c .before .before .before .before .before .before .before
 
 check-leg-requires : tie.Need-check-leg-requires
 check-leg-requires c κs = search needs
@@ -68,9 +68,9 @@ returns-2 c =
 
 search-route-requires : tie.Need-search-route-requires
 search-route-requires c κs =
-    let e = c .before .before .before .before in
+    let e = c .before .before .before .before .before in
     let k = e .before in
-    let r = rooms _ _ _ _ (e .if1 .left) in
+    let r = rooms _ _ _ _ _ (e .if1 .left) in
     record {
       sound = sound k;
       start = leg-first _ _ _ _ _ (leg-passes k);
@@ -78,6 +78,7 @@ search-route-requires c κs =
       g-room = r .0;
       parents-room = r .1;
       marks-room = r .2;
+      legs-room = r .3;
     }
 
 same-length : tie.Need-same-length
@@ -92,14 +93,17 @@ same-length-3 c = search needs
 same-length-4 : tie.Need-same-length-4
 same-length-4 c = search needs
 
+same-length-5 : tie.Need-same-length-5
+same-length-5 c = search needs
+
 -- what the search leaves in the slices
 abbrev left : tie.After-search-route → Slices
-left q = let l = q .search-route .last .1 .1 .1 .1 .1 .1 .1 in slices (l .0) (l .1 .0) (l .1 .1 .0) (l .1 .1 .1 .0)
+left q = let l = q .search-route .last .1 .1 .1 .1 .1 .1 .1 in slices (l .0) (l .1 .0) (l .1 .1 .0) (l .1 .1 .1 .0) (l .1 .1 .1 .1 .0)
 
 returns-3 : tie.Need-returns-3
 returns-3 c =
-    let q = c .before .before .before .before .before .before .before .before in
-    let e = q .before .before .before .before .before in
+    let q = c .before .before .before .before .before .before .before .before .before .before in
+    let e = q .before .before .before .before .before .before in
     let s = began (e .before .before .before) in
     let a = s .args in
     routed-ran (asked s) (a .sx) (a .sy) (a .gx) (a .gy) (lent s) (leg-passes (e .before)) (left q) (handedRoute (q .search-route .result)) (e .if1 .left) (q .search-route .ensures)
@@ -121,4 +125,5 @@ route-spec =
     same-length-2
     same-length-3
     same-length-4
+    same-length-5
     returns-3)

@@ -11,7 +11,7 @@ count-path-requires c κs = search needs
 returns : tie.Need-returns
 returns c =
     let a = c .before .before .before .before .args in
-    path-short (a .start) (a .goal) (a .units) (a .outcome .expansions) (a .outcome .tests) (now (a .parents)) (now (a .path)) (c .before .count-path .result) (c .before .count-path .ensures) (c .if1 .taken)
+    path-short (a .start) (a .goal) (a .units) (a .legs) (a .outcome .expansions) (a .outcome .tests) (now (a .parents)) (now (a .path)) (c .before .count-path .result) (c .before .count-path .ensures) (c .if1 .taken)
 
 write-path-requires : tie.Need-write-path-requires
 write-path-requires c κs = search needs
@@ -27,7 +27,7 @@ returns-2 c =
     let w = c .before .before .before in
     let k = w .before .before .before in
     let a = k .before .before .before .args in
-    path-given (a .start) (a .goal) (a .units) (a .outcome .expansions) (a .outcome .tests) (now (a .parents)) (now (a .path)) (k .count-path .result) (k .count-path .ensures) _ _ (w .before .before .if1 .left)
+    path-given (a .start) (a .goal) (a .units) (a .legs) (a .outcome .expansions) (a .outcome .tests) (now (a .parents)) (now (a .path)) (k .count-path .result) (k .count-path .ensures) _ _ (w .before .before .if1 .left)
     (w .write-path .ensures) (c .exact-cells .ensures)
 
 pub tell-path-spec : {M : Type 1} → statement M

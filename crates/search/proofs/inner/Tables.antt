@@ -10,8 +10,8 @@ use borrow.Author.Tests.{leb-true}
 use Rattle.laws.proofs.Tests.{and-left, and-right}
 use Rattle.table.specs.Lengths.{sumsOf, Known}
 use Rattle.table.proofs.Table.{known-less}
-use Rattle.round.specs.declared.Request.{Request}
-use Rattle.round.specs.Request.{diagonal}
+use Rattle.offers.specs.declared.Request.{Request}
+use Rattle.offers.specs.Request.{diagonal}
 
 -- both sides pass the test
 pub sides-within : (width height side : ℕ) → (leb width side && leb height side) ≡ true → (width ≤ side) × (height ≤ side)

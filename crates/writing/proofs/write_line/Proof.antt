@@ -1,4 +1,4 @@
--- `lines::write_line` refuses a line without room, and writes any other.
+-- `writing::write_line` refuses a line without room, and writes any other.
 use Rattle.laws.proofs.Tests.{answered-no, answered-yes}
 use Rattle.lines.proofs.Written.{line-refused, line-room, line-written}
 use borrow.Author.Needs.{needs}

@@ -1,4 +1,4 @@
--- `walks::edges::first_walled` finds what stops a leg along an axis: each need is a law of proofs/edges/Counting.antt at the place's
+-- `edges::inner::first_walled` finds what stops a leg along an axis: each need is a law of proofs/edges/Counting.antt at the place's
 -- numbers. Invariant: no step passed stops the leg, and which cells were passed last. Measure: the steps left.
 use Prim.Native.Nat.{_-_, _<_}
 use mathlib.Core.Path.{_≡_, sym, _∙_}

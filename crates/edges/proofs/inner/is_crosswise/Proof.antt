@@ -1,4 +1,4 @@
--- `walks::edges::is_crosswise` is the definition's test.
+-- `edges::inner::is_crosswise` is the definition's test.
 use mathlib.Core.Path.{_≡_, refl}
 use mathlib.Core.Bool.{Bool, true, false, not, _&&_, Bool·beq}
 use Rattle.legs.specs.Pinched.{crosswise}

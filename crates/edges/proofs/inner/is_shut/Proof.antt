@@ -1,4 +1,4 @@
--- `walks::edges::is_shut` reads the cell of its direction.
+-- `edges::inner::is_shut` reads the cell of its direction.
 use Rattle.edges.specs.Edges.{cellOn}
 use Rattle.edges.proofs.inner.is_shut.Statement.{statement}
 use Rattle.edges.proofs.inner.is_shut.Tie as tie

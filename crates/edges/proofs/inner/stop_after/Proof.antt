@@ -1,4 +1,4 @@
--- `walks::edges::stop_after` is the definition's stop.
+-- `edges::inner::stop_after` is the definition's stop.
 use Prim.Native.Nat.{ℕ, _-_}
 use mathlib.Core.Path.{_≡_, sym, _∙_, ap, ap₂}
 use native.Mathlib.Omega.{arith}

@@ -1,4 +1,4 @@
--- `walks::edges::vertex` is the definition's vertex.
+-- `edges::inner::vertex` is the definition's vertex.
 use Rattle.edges.specs.Edges.{vertexFrom}
 use Rattle.edges.proofs.inner.vertex.Statement.{statement}
 use Rattle.edges.proofs.inner.vertex.Tie as tie

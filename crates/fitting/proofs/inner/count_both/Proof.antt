@@ -1,4 +1,4 @@
--- `lines::fits::count_both` adds the digits of the two.
+-- `fitting::inner::count_both` adds the digits of the two.
 use mathlib.Core.Path.{_≡_}
 use mathlib.Core.List.{_++_}
 use native.Mathlib.Omega.{arith}

@@ -1,4 +1,4 @@
--- `lines::fits::count_digits`: the digits counted so far and those of the rest are one more than all; the measure is the rest.
+-- `fitting::inner::count_digits`: the digits counted so far and those of the rest are one more than all; the measure is the rest.
 use Prim.Native.Nat.{ℕ, _+_, _≤_, _<_}
 use mathlib.Core.Path.{_≡_}
 use native.Mathlib.Omega.{arith}

@@ -1,4 +1,4 @@
--- `lines::fits::count_vertex`: the digits of x and y, a space and a comma.
+-- `fitting::inner::count_vertex`: the digits of x and y, a space and a comma.
 use Prim.Native.Nat.{ℕ}
 use native.Mathlib.Omega.{arith}
 use lib.ListN.{length-append}

@@ -1,4 +1,4 @@
--- `lines::fits::line_fits` counts the words, spaces and newline of each line, and its numbers.
+-- `fitting::inner::line_fits` counts the words, spaces and newline of each line, and its numbers.
 use Prim.Native.Nat.{ℕ}
 use mathlib.Core.Path.{ap, _∙_}
 use lib.Dec.{leb}

@@ -1,4 +1,4 @@
--- `lines::fits::path_fits`: the bytes given, those of the vertices so far and what is left make up the room.
+-- `fitting::inner::path_fits`: the bytes given, those of the vertices so far and what is left make up the room.
 use Prim.Native.Nat.{ℕ, _+_, _-_, _≤_, _<_}
 use mathlib.Core.Path.{_≡_, sym, ap}
 use mathlib.Core.List.{List}

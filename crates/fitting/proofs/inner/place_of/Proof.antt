@@ -1,4 +1,4 @@
--- `lines::fits::place_of` gives the column and the row, with no sum that wraps.
+-- `fitting::inner::place_of` gives the column and the row, with no sum that wraps.
 use Prim.Native.Nat.{ℕ, _+_, _/_, _%_, _<_, max}
 use mathlib.Core.Path.{_≡_, sym}
 use native.Mathlib.Nat.{mod-eq-of-lt, div-eq-of-lt, le-max-left, max-eq-left}

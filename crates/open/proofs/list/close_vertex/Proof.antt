@@ -11,7 +11,7 @@ use Rattle.open.proofs.list.close_vertex.Tie as tie
 
 -- the start, from where the group has been looked through
 abbrev start : tie.After-look → tie.Start
-start k = k .before .before .before .before .before .before .before
+start k = k .before .before .before .before .before .before .before .before
 
 returns : tie.Need-returns
 returns c =
@@ -28,11 +28,11 @@ on s =
     omega (arith, s .pre .1 .0, number-below (a .width) (a .height) (a .x) (a .y) (D .column) (D .row))
 
 slice-write-marks : tie.Need-slice-write-marks
-slice-write-marks c = let s = c .before .before .before .before .before in omega (arith, on s, s .pre .1 .1 .0 .small .room-m)
+slice-write-marks c = let s = c .before .before .before .before .before .before in omega (arith, on s, s .pre .1 .1 .0 .small .room-m)
 
 look-requires : tie.Need-look-requires
 look-requires c κs =
-    let s = c .before .before .before .before .before .before in
+    let s = c .before .before .before .before .before .before .before in
     (s .pre .0, (small-closed (on s) (s .pre .1 .1 .0 .small), s .pre .1 .1 .1))
 
 leaf-requires : tie.Need-leaf-requires

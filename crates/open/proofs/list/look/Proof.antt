@@ -14,37 +14,37 @@ use Rattle.open.proofs.list.look.Statement.{statement}
 use Rattle.open.proofs.list.look.Tie as tie
 
 abbrev Inv-loop : tie.InvT-loop
-Inv-loop width height x y gx gy g marks table row end column₀ first₀ key₀ column first key = (groupStart x ≤ column) × (column ≤ groupEnd width x) × Looking width height x y gx gy g marks column first key
+Inv-loop width height x y gx gy g marks legs table row end column₀ first₀ key₀ column first key = (groupStart x ≤ column) × (column ≤ groupEnd width x) × Looking width height x y gx gy g marks legs column first key
 
 abbrev μ-loop : tie.MeasureT-loop
-μ-loop width height x y gx gy g marks table row end column₀ first₀ key₀ column first key = groupEnd width x - column
+μ-loop width height x y gx gy g marks legs table row end column₀ first₀ key₀ column first key = groupEnd width x - column
 
 -- the places on the way: the loop, its test has passed, the start
 abbrev start : tie.At-loop Inv-loop μ-loop → tie.Start Inv-loop μ-loop
-start l = l .before .before .before .before .before
+start l = l .before .before .before .before .before .before
 
 -- the row begins on the board
 row-few : (s : tie.Start Inv-loop μ-loop) → s .args .y * (s .args .width + 1) + groupStart (s .args .x) < mostVertices
 row-few s = omega (arith, column-below (s .pre .0) (groupStart (s .args .x)) (group-filled (s .pre .0)) .1, vertices-most (s .pre .0))
 
 add-row : tie.Need-add-row Inv-loop μ-loop
-add-row c = let s = c .before .before .before in omega (arith, s .pre .0 .narrow)
+add-row c = let s = c .before .before .before .before in omega (arith, s .pre .0 .narrow)
 
 mul-row : tie.Need-mul-row Inv-loop μ-loop
-mul-row c = let s = c .before .before .before in omega (arith, row-few s)
+mul-row c = let s = c .before .before .before .before in omega (arith, row-few s)
 
 group-end-requires : tie.Need-group-end-requires Inv-loop μ-loop
-group-end-requires c κs = let s = c .before .before .before in (s .pre .0 .narrow, s .pre .0 .column)
+group-end-requires c κs = let s = c .before .before .before .before in (s .pre .0 .narrow, s .pre .0 .column)
 
 mul-column : tie.Need-mul-column Inv-loop μ-loop
-mul-column c = let s = c .before .before .before .before in omega (arith, s .pre .0 .narrow, s .pre .0 .column)
+mul-column c = let s = c .before .before .before .before .before in omega (arith, s .pre .0 .narrow, s .pre .0 .column)
 
 add-first : tie.Need-add-first Inv-loop μ-loop
-add-first c = omega (arith, row-few (c .before .before .before .before))
+add-first c = omega (arith, row-few (c .before .before .before .before .before))
 
 loop-holds : tie.Need-loop-holds Inv-loop μ-loop
 loop-holds c =
-    let s = c .before .before .before .before in
+    let s = c .before .before .before .before .before in
     let filled = group-filled (s .pre .0) in
     (omega arith, omega arith, looking-start (s .pre .0) (s .pre .1 .0))
 
@@ -70,11 +70,11 @@ loop-again c =
     let a = s .args in
     let t = here k .inside in
     let low = l .inv .0 in
-    let next : Looking (a .width) (a .height) (a .x) (a .y) (a .gx) (a .gy) (now (a .g)) (now (a .marks)) (l .column + 1) (c .if1 .first) (c .if1 .key) =
+    let next : Looking (a .width) (a .height) (a .x) (a .y) (a .gx) (a .gy) (now (a .g)) (now (a .marks)) (now (a .legs)) (l .column + 1) (c .if1 .first) (c .if1 .key) =
     ⊎-elim
-    (λ w. rw (w .5, w .6) (looking-open (s .pre .0) (s .pre .1 .0) (l .inv .2) low t _ (w .0 .taken) (w .2 .ensures) (w .3 .ensures) true (w .4 .taken)))
+    (λ w. rw (w .6, w .7) (looking-open (s .pre .0) (s .pre .1 .0) (l .inv .2) low t _ (w .0 .taken) (w .2 .ensures) (w .4 .ensures) true (w .5 .taken)))
     (⊎-elim
-    (λ w. rw (w .5, w .6) (looking-open (s .pre .0) (s .pre .1 .0) (l .inv .2) low t _ (w .0 .taken) (w .2 .ensures) (w .3 .ensures) false (w .4 .left)))
+    (λ w. rw (w .6, w .7) (looking-open (s .pre .0) (s .pre .1 .0) (l .inv .2) low t _ (w .0 .taken) (w .2 .ensures) (w .4 .ensures) false (w .5 .left)))
     (λ w. rw (w .1, w .2) (looking-closed (s .pre .0) (s .pre .1 .0) (l .inv .2) low t (w .0 .left))))
     (c .if1 .came) in
     (omega (arith, low), omega (arith, t), next)
@@ -113,10 +113,18 @@ add-f c =
       units-small x (a .y) (a .gx) (a .gy) (omega (arith, D, h .on)) (omega (arith, D)) (omega (arith, D)) (omega (arith, D)),
     )
 
+mul-ahead : tie.Need-mul-ahead Inv-loop μ-loop
+mul-ahead c = omega (arith, here (c .before .before .before .before) .few)
+
+shared-slice-read-ahead : tie.Need-shared-slice-read-ahead Inv-loop μ-loop
+shared-slice-read-ahead c = let k = c .before .before .before .before .before in omega (arith, here k .below, start (k .before) .pre .1 .0 .room-l)
+
 ahead-requires : tie.Need-ahead-requires Inv-loop μ-loop
 ahead-requires c κs =
-    let l = c .before .before .before .before .before in
-    omega (arith, l .loop .inv .2 .on, start l .pre .1 .0 .room-g)
+    let l = c .before .before .before .before .before .before in
+    let on = l .loop .inv .2 .on in
+    let S = start l .pre .1 .0 in
+    (omega (arith, S .room-g), omega (arith, S .room-l))
 
 add-column : tie.Need-add-column Inv-loop μ-loop
 add-column c = omega (arith, here (c .before .before) .few)
@@ -147,6 +155,8 @@ look-spec =
     shared-slice-read-own
     units-between-requires
     add-f
+    mul-ahead
+    shared-slice-read-ahead
     ahead-requires
     add-column
     loop-less

@@ -13,21 +13,21 @@ use Rattle.open.proofs.list.open_vertex.Tie as tie
 
 units-between-requires : tie.Need-units-between-requires
 units-between-requires c κs =
-    let s = c .before .before .before .before .before in
+    let s = c .before .before .before .before .before .before in
     let D = s .pre .0 in
     known-leg (s .pre .1 .1 .1) (D .narrow, D .low) (omega (arith, D))
 
 abbrev start : tie.After-units-between → tie.Start
-start k = k .before .before .before .before .before .before
+start k = k .before .before .before .before .before .before .before
 
 -- the start, from where the vertex has climbed
 abbrev late : tie.After-enter → tie.Start
-late e = start (e .before .before .before .before .before)
+late e = start (e .before .before .before .before .before .before)
 
 returns : tie.Need-returns
 returns c =
     let e = c .before .before .before .before in
-    let l = e .before .before .before .before in
+    let l = e .before .before .before .before .before in
     let s = late e in
     listed-opened (s .pre .0) (s .pre .1 .0) (s .pre .1 .1 .0) (l .before .units-between .ensures) (rw (l .leaf .ensures) at (e .enter .ensures))
 
@@ -55,7 +55,7 @@ on s =
 
 enter-requires : tie.Need-enter-requires
 enter-requires c κs =
-    let l = c .before .before .before in
+    let l = c .before .before .before .before in
     let s = start (l .before) in
     let a = s .args in
     let D = s .pre .0 in
@@ -69,6 +69,12 @@ mul-g c = let s = late (c .before .before .before .before) in omega (arith, on s
 
 slice-write-g : tie.Need-slice-write-g
 slice-write-g c = let s = late (c .before .before .before .before) in omega (arith, on s, s .pre .1 .1 .0 .small .room-g)
+
+mul-legs : tie.Need-mul-legs
+mul-legs c = let s = late (c .before .before .before .before) in omega (arith, on s, vertices-most (s .pre .0))
+
+slice-write-legs : tie.Need-slice-write-legs
+slice-write-legs c = let s = late (c .before .before .before .before) in omega (arith, on s, s .pre .1 .1 .0 .small .room-l)
 
 slice-write-marks : tie.Need-slice-write-marks
 slice-write-marks c = let s = late (c .before .before .before .before) in omega (arith, on s, s .pre .1 .1 .0 .small .room-m)
@@ -85,6 +91,9 @@ same-length-3 c = search needs
 same-length-4 : tie.Need-same-length-4
 same-length-4 c = search needs
 
+same-length-5 : tie.Need-same-length-5
+same-length-5 c = search needs
+
 pub open-vertex-spec : {M : Type 1} → statement M
 open-vertex-spec =
     tie.close
@@ -95,9 +104,12 @@ open-vertex-spec =
     enter-requires
     mul-g
     slice-write-g
+    mul-legs
+    slice-write-legs
     slice-write-marks
     same-length
     same-length-2
     same-length-3
     same-length-4
+    same-length-5
     returns)

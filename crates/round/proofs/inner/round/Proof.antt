@@ -7,46 +7,46 @@ use lib.ListN.{length}
 use Rattle.board.specs.Limits.{mostVertices}
 use Rattle.theta.specs.Search.{State}
 use Rattle.theta.specs.Lent.{state}
-use Rattle.round.specs.Request.{sizeOf}
+use Rattle.offers.specs.Request.{sizeOf}
 use Rattle.problem.proofs.Sizes.{vertices-most}
 use Rattle.round.proofs.inner.Passed.{Passed, Onward, below-size, passed-top, passed-left, passed-right, passed-bottom, passed-more, passed-taken, passed-tests, passed-sizes}
 use Rattle.round.proofs.inner.round.Statement.{statement}
 use Rattle.round.proofs.inner.round.Tie as tie
 
 abbrev Inv-loop2 : tie.InvT-loop2
-Inv-loop2 cells request u parent tests g₀ parents₀ marks₀ leads₀ keys₀ table wide left right bottom t₀ y row x₀ g parents marks leads keys t x = (u .x - 1 ≤ x) × (x ≤ right)
-    × Onward cells request u (row + x₀) (state g₀ parents₀ marks₀ 0 t₀) leads₀ keys₀ (row + x) (state g parents marks 0 t) leads keys
+Inv-loop2 cells request u parent tests g₀ parents₀ marks₀ legs₀ leads₀ keys₀ table wide left right bottom t₀ y row x₀ g parents marks legs leads keys t x = (u .x - 1 ≤ x) × (x ≤ right)
+    × Onward cells request u (row + x₀) (state g₀ parents₀ marks₀ legs₀ 0 t₀) leads₀ keys₀ (row + x) (state g parents marks legs 0 t) leads keys
     × (length leads ≡ length leads₀) × (length keys ≡ length keys₀)
 
 abbrev μ-loop2 : tie.MeasureT-loop2
-μ-loop2 cells request u parent tests g₀ parents₀ marks₀ leads₀ keys₀ table wide left right bottom t₀ y row x₀ g parents marks leads keys t x = right - x
+μ-loop2 cells request u parent tests g₀ parents₀ marks₀ legs₀ leads₀ keys₀ table wide left right bottom t₀ y row x₀ g parents marks legs leads keys t x = right - x
 
 abbrev Inv-loop : tie.InvT-loop
-Inv-loop cells request u parent tests g₀ parents₀ marks₀ leads₀ keys₀ table wide left right bottom t₀ y₀ g parents marks leads keys t y = (u .y - 1 ≤ y) × (y ≤ bottom)
-    × Passed cells request u (state g₀ parents₀ marks₀ 0 tests) (y * wide) (state g parents marks 0 t) leads keys
+Inv-loop cells request u parent tests g₀ parents₀ marks₀ legs₀ leads₀ keys₀ table wide left right bottom t₀ y₀ g parents marks legs leads keys t y = (u .y - 1 ≤ y) × (y ≤ bottom)
+    × Passed cells request u (state g₀ parents₀ marks₀ legs₀ 0 tests) (y * wide) (state g parents marks legs 0 t) leads keys
     × (length leads ≡ length leads₀) × (length keys ≡ length keys₀)
 
 abbrev μ-loop : tie.MeasureT-loop
-μ-loop cells request u parent tests g₀ parents₀ marks₀ leads₀ keys₀ table wide left right bottom t₀ y₀ g parents marks leads keys t y = bottom - y
+μ-loop cells request u parent tests g₀ parents₀ marks₀ legs₀ leads₀ keys₀ table wide left right bottom t₀ y₀ g parents marks legs leads keys t y = bottom - y
 
 add-wide : tie.Need-add-wide Inv-loop2 μ-loop2 Inv-loop μ-loop
-add-wide c = let A = c .before .before .before .before .before .before .before .before .pre .0 .asked-for .sound in omega (arith, A .narrow)
+add-wide c = let A = c .before .before .before .before .before .before .before .before .before .pre .0 .asked-for .sound in omega (arith, A .narrow)
 
 line-before-requires : tie.Need-line-before-requires Inv-loop2 μ-loop2 Inv-loop μ-loop
 line-before-requires c κs = tt
 
 lines-end-requires : tie.Need-lines-end-requires Inv-loop2 μ-loop2 Inv-loop μ-loop
-lines-end-requires c κs = let T = c .before .before .before .before .before .before .before .before .before .pre .0 in omega (arith, T .placed .on .x-on, T .asked-for .sound .narrow)
+lines-end-requires c κs = let T = c .before .before .before .before .before .before .before .before .before .before .pre .0 in omega (arith, T .placed .on .x-on, T .asked-for .sound .narrow)
 
 lines-end-requires-2 : tie.Need-lines-end-requires-2 Inv-loop2 μ-loop2 Inv-loop μ-loop
-lines-end-requires-2 c κs = let T = c .before .before .before .before .before .before .before .before .before .before .pre .0 in omega (arith, T .placed .on .y-on, T .asked-for .sound .low)
+lines-end-requires-2 c κs = let T = c .before .before .before .before .before .before .before .before .before .before .before .pre .0 in omega (arith, T .placed .on .y-on, T .asked-for .sound .low)
 
 line-before-requires-2 : tie.Need-line-before-requires-2 Inv-loop2 μ-loop2 Inv-loop μ-loop
 line-before-requires-2 c κs = tt
 
 loop-holds : tie.Need-loop-holds Inv-loop2 μ-loop2 Inv-loop μ-loop
 loop-holds c =
-    let s = c .before .before .before .before .before .before .before .before .before .before .before .before in (
+    let s = c .before .before .before .before .before .before .before .before .before .before .before .before .before in (
       omega (arith, c .line-before2 .ensures),
       omega (arith, c .line-before2 .ensures, c .before .lines-end2 .ensures, s .pre .0 .placed .on .y-on),
       rw (c .line-before2 .ensures) (passed-top (s .pre .0) (s .pre .1 .1 .0)),
@@ -55,14 +55,14 @@ loop-holds c =
     )
 
 abbrev start : tie.At-loop Inv-loop2 μ-loop2 Inv-loop μ-loop → tie.Start Inv-loop2 μ-loop2 Inv-loop μ-loop
-start l = l .before .before .before .before .before .before .before .before .before .before .before .before .before
+start l = l .before .before .before .before .before .before .before .before .before .before .before .before .before .before
 
 few : (s : tie.Start Inv-loop2 μ-loop2 Inv-loop μ-loop) → sizeOf (s .args .request) ≤ mostVertices
 few s = vertices-most (s .args .request .width) (s .args .request .height) (s .pre .0 .asked-for .sound .narrow) (s .pre .0 .asked-for .sound .low)
 
 -- what the slices held when the round began
 abbrev began : tie.Start Inv-loop2 μ-loop2 Inv-loop μ-loop → State
-began s = let a = s .args in state (now (a .g)) (now (a .parents)) (now (a .marks)) 0 (a .tests)
+began s = let a = s .args in state (now (a .g)) (now (a .parents)) (now (a .marks)) (now (a .legs)) 0 (a .tests)
 
 -- the bounds of the round
 left-is : (l : tie.At-loop Inv-loop2 μ-loop2 Inv-loop μ-loop) → l .before .before .before .before .line-before .result ≡ start l .args .u .x - 1
@@ -109,18 +109,18 @@ here : (c : tie.At-loop2 Inv-loop2 μ-loop2 Inv-loop μ-loop) → let l = c .loo
     let o = c .before .before in
     let a = start o .args in
     Passed (now (a .cells)) (a .request) (a .u) (began (start o)) (o .loop .y * (a .request .width + 1) + l .x)
-    (state (l .g) (l .parents) (l .marks) 0 (l .t)) (l .leads) (l .keys)
+    (state (l .g) (l .parents) (l .marks) (l .legs) 0 (l .t)) (l .leads) (l .keys)
 here c =
     let o = c .before .before in
     let s = start o in
     c .loop2 .inv .2 .is (began s) (passed-left (s .pre .0) (o .loop .inv .2) (o .loop .y) _ (left-is o) refl)
 
-add-t23 : tie.Need-add-t23 Inv-loop2 μ-loop2 Inv-loop μ-loop
-add-t23 c = omega (arith, spot-on c, few (start (c .before .before .before)))
+add-t24 : tie.Need-add-t24 Inv-loop2 μ-loop2 Inv-loop μ-loop
+add-t24 c = omega (arith, spot-on c, few (start (c .before .before .before)))
 
 look-requires : tie.Need-look-requires Inv-loop2 μ-loop2 Inv-loop μ-loop
 look-requires c κs =
-    let k = c .before .before .before .before .before in
+    let k = c .before .before .before .before .before .before in
     let l = k .before .loop2 in
     let s = start (k .before .before .before) in
     let P = passed-taken (s .pre .0) (here (k .before)) (omega (arith, spot-on k)) in (
@@ -141,14 +141,14 @@ look-requires c κs =
     )
 
 -- the places on the way: a vertex has been looked at, and before that its turn began; what the slices hold then
-abbrev behind : tie.After-slice-known10 Inv-loop2 μ-loop2 Inv-loop μ-loop → tie.After-look Inv-loop2 μ-loop2 Inv-loop μ-loop
-behind c = c .before .before .before .before .before .before .before .before .before .before
+abbrev behind : tie.After-slice-known12 Inv-loop2 μ-loop2 Inv-loop μ-loop → tie.After-look Inv-loop2 μ-loop2 Inv-loop μ-loop
+behind c = c .before .before .before .before .before .before .before .before .before .before .before .before
 
 abbrev turn : tie.After-look Inv-loop2 μ-loop2 Inv-loop μ-loop → tie.In-loop2 Inv-loop2 μ-loop2 Inv-loop μ-loop
-turn j = j .before .before .before .before .before .before
+turn j = j .before .before .before .before .before .before .before
 
 abbrev looked : tie.After-look Inv-loop2 μ-loop2 Inv-loop μ-loop → State
-looked j = let l = j .look .last .1 .1 .1 .1 .1 .1 in state (l .0) (l .1 .0) (l .1 .1 .0) 0 (j .look .result)
+looked j = let l = j .look .last .1 .1 .1 .1 .1 .1 in state (l .0) (l .1 .0) (l .1 .1 .0) (l .1 .1 .1 .0) 0 (j .look .result)
 
 add-x : tie.Need-add-x Inv-loop2 μ-loop2 Inv-loop μ-loop
 add-x c = let k = turn (behind c) in omega (arith, column-on k, start (k .before .before .before) .pre .0 .asked-for .sound .narrow)
@@ -167,8 +167,8 @@ loop2-again c =
       omega arith,
       omega (arith, k .loop2-test .taken),
       record { is = λ before P. rw e (passed-more {s = looked j} (l .inv .2 .is before P) (j .look .ensures .0) (j .look .ensures .1)) },
-      _∙_ {b = length (l .leads)} (j .look .kept .1 .1 .1 .1 .1 .1 .1 .1 .1 .0) (l .inv .3),
-      _∙_ {b = length (l .keys)} (j .look .kept .1 .1 .1 .1 .1 .1 .1 .1 .1 .1 .0) (l .inv .4),
+      _∙_ {b = length (l .leads)} (j .look .kept .1 .1 .1 .1 .1 .1 .1 .1 .1 .1 .0) (l .inv .3),
+      _∙_ {b = length (l .keys)} (j .look .kept .1 .1 .1 .1 .1 .1 .1 .1 .1 .1 .1 .0) (l .inv .4),
     )
 
 add-y : tie.Need-add-y Inv-loop2 μ-loop2 Inv-loop μ-loop
@@ -193,7 +193,7 @@ loop-again c =
 -- all have been looked at
 all : (c : tie.After-loop Inv-loop2 μ-loop2 Inv-loop μ-loop) → let l = c .before .loop in
     let a = start (c .before) .args in
-    Passed (now (a .cells)) (a .request) (a .u) (began (start (c .before))) (sizeOf (a .request)) (state (l .g) (l .parents) (l .marks) 0 (l .t))
+    Passed (now (a .cells)) (a .request) (a .u) (began (start (c .before))) (sizeOf (a .request)) (state (l .g) (l .parents) (l .marks) (l .legs) 0 (l .t))
     (l .leads) (l .keys)
 all c =
     let s = start (c .before) in
@@ -211,10 +211,13 @@ same-length-3 : tie.Need-same-length-3 Inv-loop2 μ-loop2 Inv-loop μ-loop
 same-length-3 c = passed-sizes (start (c .before) .pre .0) (all c) (omega arith) .mark-same
 
 same-length-4 : tie.Need-same-length-4 Inv-loop2 μ-loop2 Inv-loop μ-loop
-same-length-4 c = c .before .loop .inv .3
+same-length-4 c = passed-sizes (start (c .before) .pre .0) (all c) (omega arith) .legs-same
 
 same-length-5 : tie.Need-same-length-5 Inv-loop2 μ-loop2 Inv-loop μ-loop
-same-length-5 c = c .before .loop .inv .4
+same-length-5 c = c .before .loop .inv .3
+
+same-length-6 : tie.Need-same-length-6 Inv-loop2 μ-loop2 Inv-loop μ-loop
+same-length-6 c = c .before .loop .inv .4
 
 returns : tie.Need-returns Inv-loop2 μ-loop2 Inv-loop μ-loop
 returns c = (all c .rounded, all c .listed)
@@ -235,7 +238,7 @@ round-spec =
     loop-holds
     mul-row
     loop2-holds
-    add-t23
+    add-t24
     look-requires
     add-x
     loop2-less
@@ -248,4 +251,5 @@ round-spec =
     same-length-3
     same-length-4
     same-length-5
+    same-length-6
     returns)

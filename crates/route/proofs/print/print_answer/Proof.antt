@@ -38,7 +38,7 @@ print-requires c κs =
       A .below,
       (
         A .path-line refl,
-        le-trans (path-room A (s .fits .number .fits) (f .1 .1 .1 .0 .1) (f .1 .1 .1 .1 .0 .1) refl (f .1 .0 .1)) (s .pre .1),
+        le-trans (path-room A (s .fits .number .fits) (f .1 .1 .1 .1 .0 .1) (f .1 .1 .1 .1 .1 .0 .1) refl (f .1 .0 .1)) (s .pre .1),
       ),
     )
 

@@ -14,6 +14,9 @@ slice-aggregate-route-2 c = search needs
 slice-aggregate-route-3 : tie.Need-slice-aggregate-route-3
 slice-aggregate-route-3 c = search needs
 
+slice-aggregate-route-4 : tie.Need-slice-aggregate-route-4
+slice-aggregate-route-4 c = search needs
+
 route-requires : tie.Need-route-requires
 route-requires c κs = search needs
 
@@ -22,9 +25,9 @@ same-length c = search needs
 
 returns : tie.Need-returns
 returns c =
-    let k = c .before .before .before .before .before in
-    let s = k .before .before .before .before .before .before .before in
-    found-given _ _ _ _ _ (s .pre .0) _ (omega arith) (omega arith) (omega arith) (s .pre .1) (k .route .ensures)
+    let k = c .before .before .before .before .before .before in
+    let s = k .before .before .before .before .before .before .before .before in
+    found-given _ _ _ _ _ (s .pre .0) _ (omega arith) (omega arith) (omega arith) (omega arith) (s .pre .1) (k .route .ensures)
 
 pub search-net-spec : {M : Type 1} → statement M
 search-net-spec =
@@ -33,6 +36,7 @@ search-net-spec =
     slice-aggregate-route
     slice-aggregate-route-2
     slice-aggregate-route-3
+    slice-aggregate-route-4
     route-requires
     same-length
     returns)

@@ -1,4 +1,5 @@
 -- `search::inner::find_by` begins as the definition does, and its turns are the definition's.
+use mathlib.Core.Path.{_∙_}
 use Prim.Native.Nat.{_+_, _*_, _≤_, _<_}
 use native.Mathlib.Omega.{arith}
 use borrow.Author.Needs.{needs}
@@ -10,7 +11,7 @@ use Rattle.open.proofs.Grouping.{nodes-fit}
 use Rattle.open.proofs.Listing.{blank-made}
 use Rattle.theta.specs.Search.{State}
 use Rattle.theta.specs.Lent.{state, Begun}
-use Rattle.round.specs.Request.{sizeOf}
+use Rattle.offers.specs.Request.{sizeOf}
 use Rattle.problem.proofs.Sizes.{vertices-most}
 use Rattle.turns.proofs.Finding.{start-sited, cleared-listed, cleared-lower, cleared-begun, begun-begins, found-whole}
 use Rattle.search.proofs.inner.find_by.Statement.{statement}
@@ -21,17 +22,17 @@ few s = vertices-most (s .args .request .width) (s .args .request .height) (s .p
 
 -- the places on the way: the start is open, the slices have been cleared, the start has its number
 abbrev cleared : tie.After-open-vertex → tie.After-begin
-cleared o = o .before .before .before .before .before .before .before .before .before .before .before
+cleared o = o .before .before .before .before .before .before .before .before .before .before .before .before .before .before
 
 abbrev numbered : tie.After-begin → tie.After-number-of
-numbered b = b .before .before .before .before .before .before
+numbered b = b .before .before .before .before .before .before .before
 
 abbrev start : tie.After-number-of → tie.Start
-start n = n .before .before .before .before .before .before
+start n = n .before .before .before .before .before .before .before
 
 begin-requires : tie.Need-begin-requires
 begin-requires c κs =
-    let n = c .before .before .before .before .before in
+    let n = c .before .before .before .before .before .before in
     let s = start n in
     let q = s .args .request in
     let A = s .pre .0 in
@@ -39,17 +40,17 @@ begin-requires c κs =
 
 -- what the slices hold: as lent, cleared, and with the start open
 abbrev lent : tie.Start → State
-lent s = state (now (s .args .g)) (now (s .args .parents)) (now (s .args .marks)) 0 0
+lent s = state (now (s .args .g)) (now (s .args .parents)) (now (s .args .marks)) (now (s .args .legs)) 0 0
 
 abbrev emptied : tie.After-begin → State
-emptied b = let l = b .begin .last .1 .1 in state (l .0) (l .1 .0) (l .1 .1 .0) 0 0
+emptied b = let l = b .begin .last .1 .1 in state (l .0) (l .1 .0) (l .1 .1 .0) (l .1 .1 .1 .0) 0 0
 
 abbrev opened : tie.After-open-vertex → State
-opened o = let l = o .open-vertex .last .1 .1 .1 .1 .1 .1 .1 .1 in state (l .0) (emptied (cleared o) .parent) (l .1 .0) 0 0
+opened o = let l = o .open-vertex .last .1 .1 .1 .1 .1 .1 .1 .1 .1 in state (l .0) (emptied (cleared o) .parent) (l .1 .0) (l .1 .1 .0) 0 0
 
 open-vertex-requires : tie.Need-open-vertex-requires
 open-vertex-requires c κs =
-    let b = c .before .before .before .before .before .before .before .before .before .before in
+    let b = c .before .before .before .before .before .before .before .before .before .before .before .before .before in
     let n = numbered b in
     let s = start n in
     let A = s .pre .0 in
@@ -69,26 +70,55 @@ begun o =
     let b = cleared o in
     let n = numbered b in
     let s = start n in
-    let l = o .open-vertex .last .1 .1 .1 .1 .1 .1 .1 .1 in
+    let l = o .open-vertex .last .1 .1 .1 .1 .1 .1 .1 .1 .1 in
     cleared-begun (s .pre .0) (n .number-of .ensures) {before = lent s} {after = emptied b} (b .begin .ensures) {g = l .0} {mark = l .1 .0}
-    {leads = l .1 .1 .0} {keys = l .1 .1 .1 .0} (o .open-vertex .ensures)
+    {legs = l .1 .1 .0} {leads = l .1 .1 .1 .0} {keys = l .1 .1 .1 .1 .0} (o .open-vertex .ensures)
 
 run-requires : tie.Need-run-requires
 run-requires c κs =
-    let o = c .before .before .before .before .before .before .before .before .before .before .before in
+    let o = c .before .before .before .before .before .before .before .before .before .before .before .before .before .before in
     let n = numbered (cleared o) in
     let s = start n in
     let B = begun-begins (s .pre .0) (n .number-of .ensures) {before = lent s} {after = opened o} (begun o) in
     (s .pre .0, (B, (o .open-vertex .ensures .listed, s .pre .1 .1)))
 
+-- the places on the way: the turns have ended, and before that the start was opened
+abbrev over : tie.After-keys4 → tie.After-run
+over c = c .before .before .before .before .before .before .before .before .before .before
+
+abbrev begun-with : tie.After-run → tie.After-open-vertex
+begun-with r = r .before .before .before .before .before .before .before .before .before .before .before .before .before .before .before
+
+-- each call keeps the slices' lengths
+same-length : tie.Need-same-length
+same-length c =
+    let r = over c in
+    let o = begun-with r in
+    r .run .kept .1 .1 .0 ∙ o .open-vertex .kept .1 .1 .1 .1 .1 .1 .1 .1 .1 .0 ∙ cleared o .begin .kept .1 .1 .0
+
+same-length-2 : tie.Need-same-length-2
+same-length-2 c = let r = over c in r .run .kept .1 .1 .1 .0 ∙ cleared (begun-with r) .begin .kept .1 .1 .1 .0
+
+same-length-3 : tie.Need-same-length-3
+same-length-3 c =
+    let r = over c in
+    let o = begun-with r in
+    r .run .kept .1 .1 .1 .1 .0 ∙ o .open-vertex .kept .1 .1 .1 .1 .1 .1 .1 .1 .1 .1 .0 ∙ cleared o .begin .kept .1 .1 .1 .1 .0
+
+same-length-4 : tie.Need-same-length-4
+same-length-4 c =
+    let r = over c in
+    let o = begun-with r in
+    r .run .kept .1 .1 .1 .1 .1 .0 ∙ o .open-vertex .kept .1 .1 .1 .1 .1 .1 .1 .1 .1 .1 .1 .0 ∙ cleared o .begin .kept .1 .1 .1 .1 .1 .0
+
 -- what they hold when the turns have ended
 abbrev ran : tie.After-run → State
-ran r = let l = r .run .last .1 .1 in state (l .0) (l .1 .0) (l .1 .1 .0) (r .run .result .expansions) (r .run .result .tests)
+ran r = let l = r .run .last .1 .1 in state (l .0) (l .1 .0) (l .1 .1 .0) (l .1 .1 .1 .0) (r .run .result .expansions) (r .run .result .tests)
 
 returns : tie.Need-returns
 returns c =
-    let r = c .before .before .before .before .before .before .before .before in
-    let o = r .before .before .before .before .before .before .before .before .before .before .before .before in
+    let r = over c in
+    let o = begun-with r in
     let n = numbered (cleared o) in
     let s = start n in
     found-whole (s .pre .0) (n .number-of .ensures) {before = lent s} {after = opened o} (begun o) {s = ran r} (r .run .ensures)
@@ -109,7 +139,8 @@ find-by-spec =
     (λ c. search needs)
     (λ c. search needs)
     run-requires
-    (λ c. search needs)
-    (λ c. search needs)
-    (λ c. search needs)
+    same-length
+    same-length-2
+    same-length-3
+    same-length-4
     returns)

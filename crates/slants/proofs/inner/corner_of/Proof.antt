@@ -1,4 +1,4 @@
--- `walks::walk::corner_of` is the definition's corner.
+-- `slants::inner::corner_of` is the definition's corner.
 use mathlib.Core.Path.{ap₂}
 use native.Mathlib.Nat.{mod-le, div-le-self}
 use native.Mathlib.Omega.{arith}

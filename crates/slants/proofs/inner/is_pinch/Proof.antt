@@ -1,4 +1,4 @@
--- `walks::walk::is_pinch` reads the three cells.
+-- `slants::inner::is_pinch` reads the three cells.
 use mathlib.Core.Path.{sym}
 use borrow.Author.Needs.{needs}
 use borrow.Author.Tests.{eq-eqb, ne-eqb}

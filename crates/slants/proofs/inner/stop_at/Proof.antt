@@ -1,4 +1,4 @@
--- `walks::walk::stop_at` is the definition's stop.
+-- `slants::inner::stop_at` is the definition's stop.
 use mathlib.Core.Path.{_≡_, _∙_}
 use native.Mathlib.Omega.{arith}
 use borrow.Author.Needs.{needs}

@@ -14,28 +14,29 @@ use Rattle.tournament.proofs.tree.enter.Statement.{statement}
 use Rattle.tournament.proofs.tree.enter.Tie as tie
 
 abbrev Inv-loop : tie.InvT-loop
-Inv-loop leaf v own f g leads₀ keys₀ i₀ leads keys i = (i ≤ leaf) × Climbing (seen g) (numbers g) (ranked f own v) leaf leads₀ keys₀ i leads keys
+Inv-loop leaf v own count f g legs leads₀ keys₀ i₀ leads keys i = (i ≤ leaf)
+    × Climbing (seen g legs) (numbers g legs) (ranked f own count v) leaf leads₀ keys₀ i leads keys
 
 abbrev μ-loop : tie.MeasureT-loop
-μ-loop leaf v own f g leads₀ keys₀ i₀ leads keys i = i
+μ-loop leaf v own count f g legs leads₀ keys₀ i₀ leads keys i = i
 
 -- the places on the way: the loop's test has passed, a node has been compared, the start
 abbrev start : tie.At-loop Inv-loop μ-loop → tie.Start Inv-loop μ-loop
-start l = l .before .before .before .before
+start l = l .before .before .before .before .before
 
 abbrev inside : tie.Else1 Inv-loop μ-loop → tie.In-loop Inv-loop μ-loop
 inside c = c .before .before .before .before
 
 -- the newcomer's rank
 abbrev new : tie.Start Inv-loop μ-loop → Rank
-new s = ranked (s .args .f) (s .args .own) (s .args .v)
+new s = ranked (s .args .f) (s .args .own) (s .args .count) (s .args .v)
 
 -- whether it is ahead of the node's leader
 abbrev test : tie.In-loop Inv-loop μ-loop → Bool
 test k =
     let l = k .before .loop in
     let s = start (k .before) in
-    sooner (new s) (seen (now (s .args .g)) (at (l .leads) (l .i)) (at (l .keys) (l .i)))
+    sooner (new s) (seen (now (s .args .g)) (now (s .args .legs)) (at (l .leads) (l .i)) (at (l .keys) (l .i)))
 
 -- the node has a place
 place : (l : tie.At-loop Inv-loop μ-loop) → (l .loop .i < length (l .loop .leads)) × (l .loop .i < length (l .loop .keys))
@@ -45,7 +46,7 @@ place l =
     (omega (arith, K .0, R .room-l, K .1 .same-l), omega (arith, K .0, R .room-k, K .1 .same-k))
 
 loop-holds : tie.Need-loop-holds Inv-loop μ-loop
-loop-holds c = let s = c .before .before .before in (omega arith, climbing-start (seen (now (s .args .g))) (new s) (s .args .leaf) (now (s .args .keys)) (s .pre .1 .0))
+loop-holds c = let s = c .before .before .before .before in (omega arith, climbing-start (seen (now (s .args .g)) (now (s .args .legs))) (new s) (s .args .leaf) (now (s .args .keys)) (s .pre .1 .0))
 
 mul-key : tie.Need-mul-key Inv-loop μ-loop
 mul-key c = omega (arith, c .before .loop .inv .0, start (c .before) .pre .0 .few)
@@ -63,7 +64,10 @@ cast-ahead : tie.Need-cast-ahead Inv-loop μ-loop
 cast-ahead c = let l = c .before .before .before in omega (arith, l .loop .inv .1 .seated .on (l .loop .i))
 
 ahead-requires : tie.Need-ahead-requires Inv-loop μ-loop
-ahead-requires c κs = let l = c .before .before .before in omega (arith, l .loop .inv .1 .seated .on (l .loop .i))
+ahead-requires c κs =
+    let l = c .before .before .before in
+    let on = l .loop .inv .1 .seated .on (l .loop .i) in
+    (omega arith, omega arith)
 
 same-length : tie.Need-same-length Inv-loop μ-loop
 same-length c = c .before .before .before .before .before .loop .inv .1 .same-l

@@ -13,36 +13,37 @@ use Rattle.tournament.proofs.tree.renew.Statement.{statement}
 use Rattle.tournament.proofs.tree.renew.Tie as tie
 
 abbrev Inv-loop : tie.InvT-loop
-Inv-loop leaf g leads₀ keys₀ i₀ first₀ leads keys i first = (0 < i) × (i ≤ leaf) × Renewing (seen g) (numbers g) leaf leads₀ keys₀ i (first .vertex) (first .f) leads keys
+Inv-loop leaf g legs leads₀ keys₀ i₀ first₀ leads keys i first = (0 < i) × (i ≤ leaf)
+    × Renewing (seen g legs) (numbers g legs) leaf leads₀ keys₀ i (first .vertex) (first .f) leads keys
 
 abbrev μ-loop : tie.MeasureT-loop
-μ-loop leaf g leads₀ keys₀ i₀ first₀ leads keys i first = i
+μ-loop leaf g legs leads₀ keys₀ i₀ first₀ leads keys i first = i
 
 abbrev start : tie.At-loop Inv-loop μ-loop → tie.Start Inv-loop μ-loop
-start l = l .before .before .before .before .before
+start l = l .before .before .before .before .before .before
 
 cast-leads : tie.Need-cast-leads Inv-loop μ-loop
-cast-leads c = let s = c .before .before .before .before in omega (arith, s .pre .1 .1, vertices-fit)
+cast-leads c = let s = c .before .before .before .before .before in omega (arith, s .pre .1 .1, vertices-fit)
 
 mul-leads : tie.Need-mul-leads Inv-loop μ-loop
-mul-leads c = omega (arith, c .before .before .before .before .pre .0 .few)
+mul-leads c = omega (arith, c .before .before .before .before .before .pre .0 .few)
 
 slice-write-leads : tie.Need-slice-write-leads Inv-loop μ-loop
-slice-write-leads c = omega (arith, c .before .before .before .before .pre .0 .room-l)
+slice-write-leads c = omega (arith, c .before .before .before .before .before .pre .0 .room-l)
 
 mul-keys : tie.Need-mul-keys Inv-loop μ-loop
-mul-keys c = omega (arith, c .before .before .before .before .pre .0 .few)
+mul-keys c = omega (arith, c .before .before .before .before .before .pre .0 .few)
 
 slice-write-keys : tie.Need-slice-write-keys Inv-loop μ-loop
-slice-write-keys c = omega (arith, c .before .before .before .before .pre .0 .room-k)
+slice-write-keys c = omega (arith, c .before .before .before .before .before .pre .0 .room-k)
 
 loop-holds : tie.Need-loop-holds Inv-loop μ-loop
 loop-holds c =
-    let s = c .before .before .before .before in
+    let s = c .before .before .before .before .before in
     let R = s .pre .0 in (
       R .some,
       omega arith,
-      renewing-start (seen (now (s .args .g))) (now (s .args .keys)) (s .args .leaf) (s .args .leader .vertex) (s .args .leader .f) (omega (arith, R .room-l)) (omega (arith, R .room-k))
+      renewing-start (seen (now (s .args .g)) (now (s .args .legs))) (now (s .args .keys)) (s .args .leaf) (s .args .leader .vertex) (s .args .leader .f) (omega (arith, R .room-l)) (omega (arith, R .room-k))
           (s .pre .1 .1) (s .pre .1 .0),
     )
 
@@ -79,20 +80,20 @@ beside c =
       above-k = omega arith;
     }
 
-mul-t15 : tie.Need-mul-t15 Inv-loop μ-loop
-mul-t15 c = omega (arith, beside c .few)
+mul-t16 : tie.Need-mul-t16 Inv-loop μ-loop
+mul-t16 c = omega (arith, beside c .few)
 
-slice-read-t17 : tie.Need-slice-read-t17 Inv-loop μ-loop
-slice-read-t17 c = beside (c .before) .place-l
+slice-read-t18 : tie.Need-slice-read-t18 Inv-loop μ-loop
+slice-read-t18 c = beside (c .before) .place-l
 
-cast-t18 : tie.Need-cast-t18 Inv-loop μ-loop
-cast-t18 c = let k = c .before in omega (arith, k .before .before .loop .inv .2 .seated .on (k .sibling .result))
+cast-t19 : tie.Need-cast-t19 Inv-loop μ-loop
+cast-t19 c = let k = c .before in omega (arith, k .before .before .loop .inv .2 .seated .on (k .sibling .result))
 
-mul-t19 : tie.Need-mul-t19 Inv-loop μ-loop
-mul-t19 c = omega (arith, beside (c .before) .few)
+mul-t20 : tie.Need-mul-t20 Inv-loop μ-loop
+mul-t20 c = omega (arith, beside (c .before) .few)
 
-slice-read-t21 : tie.Need-slice-read-t21 Inv-loop μ-loop
-slice-read-t21 c = beside (c .before .before) .place-k
+slice-read-t22 : tie.Need-slice-read-t22 Inv-loop μ-loop
+slice-read-t22 c = beside (c .before .before) .place-k
 
 winner-requires : tie.Need-winner-requires Inv-loop μ-loop
 winner-requires c κs =
@@ -108,7 +109,7 @@ next : (c : tie.After-struct-known2 Inv-loop μ-loop) → let k = place c in
     let l = k .before .before .loop in
     let s = start (k .before .before) in
     let w = c .before .winner .result in
-    Renewing (seen (now (s .args .g))) (numbers (now (s .args .g))) (s .args .leaf) (set (now (s .args .leads)) (s .args .leaf) (s .args .leader .vertex))
+    Renewing (seen (now (s .args .g)) (now (s .args .legs))) (numbers (now (s .args .g)) (now (s .args .legs))) (s .args .leaf) (set (now (s .args .leads)) (s .args .leaf) (s .args .leader .vertex))
     (set (now (s .args .keys)) (s .args .leaf) (s .args .leader .f)) (l .i / 2) (w .vertex) (w .f) (set (l .leads) (l .i / 2) (w .vertex))
     (set (l .keys) (l .i / 2) (w .f))
 next c =
@@ -169,11 +170,11 @@ renew-spec =
     slice-write-keys
     loop-holds
     sibling-requires
-    mul-t15
-    slice-read-t17
-    cast-t18
-    mul-t19
-    slice-read-t21
+    mul-t16
+    slice-read-t18
+    cast-t19
+    mul-t20
+    slice-read-t22
     winner-requires
     cast-leads-2
     mul-leads-2

@@ -11,14 +11,24 @@ use borrow.Author.Needs.{needs}
 use Rattle.tournament.proofs.tree.winner.Statement.{statement}
 use Rattle.tournament.proofs.tree.winner.Tie as tie
 
+-- the start, from where both leaders are known
+abbrev start : tie.After-struct-known2 → tie.Start
+start k = k .before .before .before .before
+
 mul-ahead : tie.Need-mul-ahead
-mul-ahead c = search needs
+mul-ahead c = omega (arith, start (c .before) .pre .1)
 
 shared-slice-read-ahead : tie.Need-shared-slice-read-ahead
-shared-slice-read-ahead c = search needs
+shared-slice-read-ahead c = omega (arith, start (c .before .before) .pre .1)
+
+mul-ahead-2 : tie.Need-mul-ahead-2
+mul-ahead-2 c = omega (arith, start (c .before .before) .pre .1)
+
+shared-slice-read-ahead-2 : tie.Need-shared-slice-read-ahead-2
+shared-slice-read-ahead-2 c = omega (arith, start (c .before .before .before) .pre .1)
 
 ahead-requires : tie.Need-ahead-requires
-ahead-requires c κs = search needs
+ahead-requires c κs = let s = start (c .before .before .before) in (omega (arith, s .pre .0), omega (arith, s .pre .0))
 
 returns : tie.Need-returns
 returns c = let t = sym (c .before .ahead .ensures) ∙ c .if2 .taken in record { vertex-is = rw t refl; key-is = rw t refl }
@@ -28,13 +38,13 @@ returns-2 c = let t = sym (c .before .ahead .ensures) ∙ c .if2 .left in record
 
 returns-3 : tie.Need-returns-3
 returns-3 c =
-    let s = c .before .before .before .before in
-    let g = now (s .args .g) in
-    let t : sooner (seen g (s .args .b .vertex) (s .args .b .f)) (seen g (s .args .a .vertex) (s .args .a .f)) ≡ false =
-    false-of _ (λ x. omega (arith, c .if1 .left, sooner-least (seen g (s .args .b .vertex) (s .args .b .f)) (seen g (s .args .a .vertex) (s .args .a .f)) x)) in
+    let s = start (c .before) in
+    let show = seen (now (s .args .g)) (now (s .args .legs)) in
+    let t : sooner (show (s .args .b .vertex) (s .args .b .f)) (show (s .args .a .vertex) (s .args .a .f)) ≡ false =
+    false-of _ (λ x. omega (arith, c .if1 .left, sooner-least (show (s .args .b .vertex) (s .args .b .f)) (show (s .args .a .vertex) (s .args .a .f)) x)) in
     record { vertex-is = rw t refl; key-is = rw t refl }
 
 pub winner-spec : {M : Type 1} → statement M
 winner-spec =
     tie.close
-    (tie.spec mul-ahead shared-slice-read-ahead ahead-requires returns returns-2 returns-3)
+    (tie.spec mul-ahead shared-slice-read-ahead mul-ahead-2 shared-slice-read-ahead-2 ahead-requires returns returns-2 returns-3)

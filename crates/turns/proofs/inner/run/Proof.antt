@@ -10,38 +10,38 @@ use Rattle.board.proofs.Numbers.{number-below}
 use Rattle.open.proofs.Grouping.{root-room}
 use Rattle.theta.specs.Search.{State}
 use Rattle.theta.specs.Lent.{state}
-use Rattle.round.specs.Request.{sizeOf}
+use Rattle.offers.specs.Request.{sizeOf}
 use Rattle.problem.proofs.Sizes.{vertices-most}
 use Rattle.turns.proofs.Finding.{Finding, wholeFrom, finding-start, finding-tests, finding-none, finding-found, finding-room, finding-taking, finding-next}
 use Rattle.turns.proofs.inner.run.Statement.{statement}
 use Rattle.turns.proofs.inner.run.Tie as tie
 
 abbrev Inv-turns : tie.InvT-turns
-Inv-turns cells request g₀ parents₀ marks₀ leads₀ keys₀ table goal expansions₀ tests₀ g parents marks leads keys expansions tests = Finding cells request (wholeFrom cells request (state g₀ parents₀ marks₀ 0 0)) (state g parents marks expansions tests) leads keys
+Inv-turns cells request g₀ parents₀ marks₀ legs₀ leads₀ keys₀ table goal expansions₀ tests₀ g parents marks legs leads keys expansions tests = Finding cells request (wholeFrom cells request (state g₀ parents₀ marks₀ legs₀ 0 0)) (state g parents marks legs expansions tests) leads keys
     × (length g ≡ length g₀) × (length parents ≡ length parents₀) × (length marks ≡ length marks₀)
-    × (length leads ≡ length leads₀) × (length keys ≡ length keys₀)
+    × (length legs ≡ length legs₀) × (length leads ≡ length leads₀) × (length keys ≡ length keys₀)
 
 abbrev μ-turns : tie.MeasureT-turns
-μ-turns cells request g₀ parents₀ marks₀ leads₀ keys₀ table goal expansions₀ tests₀ g parents marks leads keys expansions tests = sizeOf request - expansions
+μ-turns cells request g₀ parents₀ marks₀ legs₀ leads₀ keys₀ table goal expansions₀ tests₀ g parents marks legs leads keys expansions tests = sizeOf request - expansions
 
 few : (s : tie.Start Inv-turns μ-turns) → sizeOf (s .args .request) ≤ mostVertices
 few s = vertices-most (s .args .request .width) (s .args .request .height) (s .pre .0 .sound .narrow) (s .pre .0 .sound .low)
 
 number-of-requires : tie.Need-number-of-requires Inv-turns μ-turns
-number-of-requires c κs = let A = c .before .before .before .before .before .before .before .pre .0 in omega (arith, A .sound .narrow, A .goal, A .sound .low)
+number-of-requires c κs = let A = c .before .before .before .before .before .before .before .before .pre .0 in omega (arith, A .sound .narrow, A .goal, A .sound .low)
 
 cast-goal : tie.Need-cast-goal Inv-turns μ-turns
 cast-goal c =
-    let s = c .before .before .before .before .before .before .before .before in
+    let s = c .before .before .before .before .before .before .before .before .before in
     let q = s .args .request in
     let A = s .pre .0 in
     omega (arith, c .number-of .ensures, number-below (q .width) (q .height) (q .gx) (q .gy) (A .goal .x-on) (A .goal .y-on), few s)
 
 turns-holds : tie.Need-turns-holds Inv-turns μ-turns
-turns-holds c = let s = c .before .before .before .before .before .before .before .before in (finding-start (s .pre .0) (s .pre .1 .0) (s .pre .1 .1 .0), refl, refl, refl, refl, refl)
+turns-holds c = let s = c .before .before .before .before .before .before .before .before .before in (finding-start (s .pre .0) (s .pre .1 .0) (s .pre .1 .1 .0), refl, refl, refl, refl, refl, refl)
 
 abbrev start : tie.At-turns Inv-turns μ-turns → tie.Start Inv-turns μ-turns
-start l = l .before .before .before .before .before .before .before .before .before
+start l = l .before .before .before .before .before .before .before .before .before .before
 
 first-requires : tie.Need-first-requires Inv-turns μ-turns
 first-requires c κs =
@@ -58,11 +58,11 @@ returns : tie.Need-returns Inv-turns μ-turns
 returns c = let l = empty c in finding-none (start l .pre .0) (l .turns .inv .0) (c .before .before .first .ensures) (c .if1 .taken)
 
 -- the places on the way: a vertex has been expanded, it is taken, the first of the open list is known, its turn begins
-abbrev behind : tie.After-slice-known10 Inv-turns μ-turns → tie.After-expand Inv-turns μ-turns
-behind c = c .before .before .before .before .before .before .before .before .before .before
+abbrev behind : tie.After-slice-known12 Inv-turns μ-turns → tie.After-expand Inv-turns μ-turns
+behind c = c .before .before .before .before .before .before .before .before .before .before .before .before
 
 abbrev taken : tie.After-expand Inv-turns μ-turns → tie.Else2 Inv-turns μ-turns
-taken o = o .before .before .before .before .before .before
+taken o = o .before .before .before .before .before .before .before
 
 abbrev leader : tie.Else2 Inv-turns μ-turns → tie.After-first Inv-turns μ-turns
 leader k = k .before .before .before
@@ -94,7 +94,7 @@ add-expansions c = let l = turn c in let s = start l in omega (arith, more c, fe
 
 expand-requires : tie.Need-expand-requires Inv-turns μ-turns
 expand-requires c κs =
-    let k = c .before .before .before .before .before in
+    let k = c .before .before .before .before .before .before in
     let l = turn k in
     let A = start l .pre .0 in
     let W = l .turns .inv .0 in (
@@ -107,7 +107,7 @@ expand-requires c κs =
 
 -- what the slices hold then
 abbrev expanded : tie.After-expand Inv-turns μ-turns → State
-expanded o = let l = o .expand .last .1 .1 .1 .1 in state (l .0) (l .1 .0) (l .1 .1 .0) 0 (o .expand .result)
+expanded o = let l = o .expand .last .1 .1 .1 .1 in state (l .0) (l .1 .0) (l .1 .1 .0) (l .1 .1 .1 .0) 0 (o .expand .result)
 
 turns-less : tie.Need-turns-less Inv-turns μ-turns
 turns-less c = omega (arith, more (taken (behind c)))
@@ -123,6 +123,7 @@ turns-again c =
       o .expand .kept .1 .1 .1 .1 .1 .1 .0 ∙ l .turns .inv .3,
       o .expand .kept .1 .1 .1 .1 .1 .1 .1 .0 ∙ l .turns .inv .4,
       o .expand .kept .1 .1 .1 .1 .1 .1 .1 .1 .0 ∙ l .turns .inv .5,
+      o .expand .kept .1 .1 .1 .1 .1 .1 .1 .1 .1 .0 ∙ l .turns .inv .6,
     )
 
 pub run-spec : {M : Type 1} → statement M
@@ -144,10 +145,12 @@ run-spec =
     (λ c. empty c .turns .inv .3)
     (λ c. empty c .turns .inv .4)
     (λ c. empty c .turns .inv .5)
+    (λ c. empty c .turns .inv .6)
     returns
     (λ c. arrived c .turns .inv .1)
     (λ c. arrived c .turns .inv .2)
     (λ c. arrived c .turns .inv .3)
     (λ c. arrived c .turns .inv .4)
     (λ c. arrived c .turns .inv .5)
+    (λ c. arrived c .turns .inv .6)
     returns-2)

@@ -1,4 +1,4 @@
--- `walks::pinch::is_inner_pinched` reads the two cells right of the vertex, and the two left of it where those differ.
+-- `walls::pinch::is_inner_pinched` reads the two cells right of the vertex, and the two left of it where those differ.
 use Prim.Native.Nat.{_<_}
 use native.Mathlib.Omega.{arith}
 use denote.Ref.{now}

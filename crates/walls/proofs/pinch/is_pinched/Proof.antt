@@ -1,4 +1,4 @@
--- `walks::pinch::is_pinched` asks for the cells on the inside only: on the border no vertex is pinched.
+-- `walls::pinch::is_pinched` asks for the cells on the inside only: on the border no vertex is pinched.
 use borrow.Author.Needs.{needs}
 use Rattle.walls.proofs.pinch.Around.{border-unpinched}
 use Rattle.walls.proofs.pinch.is_pinched.Statement.{statement}

@@ -1,4 +1,4 @@
--- `lines::put::put_both` puts one text and number after the other.
+-- `writing::put::put_both` puts one text and number after the other.
 use mathlib.Core.Path.{refl}
 use native.Mathlib.Omega.{arith}
 use lib.ListN.{length-append}

@@ -1,4 +1,4 @@
--- `lines::put::put_byte` writes one byte.
+-- `writing::put::put_byte` writes one byte.
 use Rattle.writing.proofs.put.Puts.{put-one}
 use borrow.Author.Needs.{needs}
 use Rattle.writing.proofs.put.put_byte.Statement.{statement}

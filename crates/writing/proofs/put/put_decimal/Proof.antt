@@ -1,4 +1,4 @@
--- `lines::put::put_decimal`: the last digits are put, and the rest has those before them; the measure is how many are left.
+-- `writing::put::put_decimal`: the last digits are put, and the rest has those before them; the measure is how many are left.
 use Prim.Native.Nat.{ℕ, _+_, _-_, _%_, _≤_, _<_}
 use mathlib.Core.Path.{_≡_, refl, _∙_}
 use native.Mathlib.Nat.{mod-lt}

@@ -1,4 +1,4 @@
--- `lines::put::put_end` puts the word, the vertices and the newline.
+-- `writing::put::put_end` puts the word, the vertices and the newline.
 use mathlib.Core.Path.{refl}
 use native.Mathlib.Omega.{arith}
 use lib.ListN.{length-append}

@@ -1,4 +1,4 @@
--- `lines::put::put_line` puts the line of its case.
+-- `writing::put::put_line` puts the line of its case.
 use borrow.Author.Needs.{needs}
 use Rattle.writing.proofs.put.put_line.Statement.{statement}
 use Rattle.writing.proofs.put.put_line.Tie as tie

@@ -1,4 +1,4 @@
--- `lines::put::put_number` puts the text, then the digits.
+-- `writing::put::put_number` puts the text, then the digits.
 use mathlib.Core.Path.{refl}
 use native.Mathlib.Omega.{arith}
 use lib.ListN.{length-append}

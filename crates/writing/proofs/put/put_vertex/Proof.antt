@@ -1,4 +1,4 @@
--- `lines::put::put_vertex` puts the column after a space and the row after a comma.
+-- `writing::put::put_vertex` puts the column after a space and the row after a comma.
 use mathlib.Core.Path.{sym}
 use native.Mathlib.Omega.{arith}
 use lib.ListN.{length-append}

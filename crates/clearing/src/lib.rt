@@ -1,0 +1,2 @@
+// The lent slices are cleared before a search.
+pub mod inner;

@@ -1,0 +1,2 @@
+// One neighbour of a taken vertex is looked at.
+pub mod inner;
