@@ -1,5 +1,5 @@
 /* The functions of include/wexxolin.h by the fast router: what the harness and the measurements are tried on, and the
-   other column of the measurements. Its job reader, its packer and its printer are written apart from the second ones. */
+   other column of the measurements. Its job reader, its packer, its printer and its route files are written apart from the second ones. */
 #include "fast.h"
 
 #include <stdio.h>
@@ -284,4 +284,107 @@ struct wexxolin_line wexxolin_line(uint64_t net, uint64_t number, uint64_t place
             return (struct wexxolin_line){21, 0, 0, 0};
     }
     return (struct wexxolin_line){0, 0, 0, pen.length};
+}
+
+/* ---------- route files ---------- */
+
+static struct wexxolin_read_routes refused_routes(uint64_t number, uint64_t place, uint64_t second)
+{
+    return (struct wexxolin_read_routes){number, place, second, 0, 0};
+}
+
+/* next is the place of a further point of the last net, SIZE_MAX where there can be none. */
+static struct wexxolin_read_routes judge_routes(const uint8_t *file, size_t file_len)
+{
+    struct wexxolin_read_routes answer = {0, 0, 0, 0, 0};
+    size_t next = 0;
+    unsigned last = 0;
+    if (file_len % 8 != 0)
+        return refused_routes(11, 0, 0);
+    for (size_t i = 0; i < file_len / 8; i++) {
+        const uint8_t *r = file + 8 * i;
+        size_t place = r[2] | (size_t)r[3] << 8;
+        if (r[0] != 4 && r[0] != 5)
+            return refused_routes(13, i, 0);
+        for (size_t k = r[0] == 4 ? 6 : 2; k < 8; k++)
+            if (r[k] != 0)
+                return refused_routes(23, i, k);
+        if (r[1] == 0 || r[1] < last || place != (r[1] == last ? next : 0))
+            return refused_routes(22, i, 0);
+        answer.nets += r[1] != last;
+        answer.points += r[0] == 4;
+        last = r[1];
+        next = r[0] == 4 ? place + 1 : SIZE_MAX;
+    }
+    return answer;
+}
+
+struct wexxolin_read_routes wexxolin_read_routes(const uint8_t *file, size_t file_len, uint8_t *nets, size_t nets_len,
+                                                 size_t *counts, size_t counts_len, uint8_t *xs, size_t xs_len,
+                                                 uint8_t *ys, size_t ys_len)
+{
+    struct wexxolin_read_routes answer = judge_routes(file, file_len);
+    if (nets_len < answer.nets || counts_len < answer.nets || xs_len < answer.points || ys_len < answer.points)
+        return refused_routes(21, 0, 0);
+    if (answer.number)
+        return answer;
+    unsigned last = 0;
+    for (const uint8_t *r = file; r != file + file_len; r += 8) {
+        if (r[1] != last) {
+            *nets++ = (uint8_t)(last = r[1]);
+            *counts++ = 0;
+        }
+        if (r[0] == 4) {
+            counts[-1]++;
+            *xs++ = r[4];
+            *ys++ = r[5];
+        }
+    }
+    return answer;
+}
+
+struct wexxolin_write_routes wexxolin_write_routes(const uint8_t *nets, size_t nets_len, const size_t *counts, size_t counts_len,
+                                                   const uint8_t *xs, size_t xs_len, const uint8_t *ys, size_t ys_len,
+                                                   uint8_t *file, size_t file_len)
+{
+    size_t records = 0, points = 0;
+    unsigned last = 0;
+    for (size_t n = 0; n < nets_len; n++) {
+        size_t count = n < counts_len ? counts[n] : 0;
+        if (nets[n] <= last)
+            return (struct wexxolin_write_routes){22, records, 0, 0};
+        if (count > 65536)
+            return (struct wexxolin_write_routes){22, records + 65536, 0, 0};
+        records += count == 0 ? 1 : count;
+        points += count;
+        last = nets[n];
+    }
+    if (counts_len < nets_len || file_len < 8 * records || xs_len < points || ys_len < points)
+        return (struct wexxolin_write_routes){21, 0, 0, 0};
+    for (size_t n = 0; n < nets_len; n++) {
+        if (counts[n] == 0) {
+            memcpy(file, (uint8_t[8]){5, nets[n]}, 8);
+            file += 8;
+        }
+        for (size_t p = 0; p < counts[n]; p++, file += 8)
+            memcpy(file, (uint8_t[8]){4, nets[n], (uint8_t)p, (uint8_t)(p >> 8), *xs++, *ys++}, 8);
+    }
+    return (struct wexxolin_write_routes){0, 0, 0, records};
+}
+
+struct wexxolin_path_points wexxolin_path_points(const wexxolin_vertex *path, size_t path_len, size_t width,
+                                                 uint8_t *xs, size_t xs_len, uint8_t *ys, size_t ys_len)
+{
+    if (width - 1 > LARGEST_SIDE - 1)
+        return (struct wexxolin_path_points){1, 0, 0};
+    for (size_t i = 0; i < path_len; i++)
+        if (path[i] / (width + 1) > LARGEST_SIDE)
+            return (struct wexxolin_path_points){4, 0, 0};
+    if (xs_len < path_len || ys_len < path_len)
+        return (struct wexxolin_path_points){21, 0, 0};
+    for (size_t i = 0; i < path_len; i++) {
+        xs[i] = (uint8_t)(path[i] % (width + 1));
+        ys[i] = (uint8_t)(path[i] / (width + 1));
+    }
+    return (struct wexxolin_path_points){0, 0, 0};
 }

@@ -32,6 +32,7 @@ static int route_all(struct picture *p)
             continue;
         route_net(&search, p->job, p->board, index);
         net->state = search.is.number == WEXXOLIN_DONE ? HAS_PATH : NO_PATH;
+        net->counted = true;
         net->units = search.is.units;
         net->expansions = search.is.expansions;
         net->tests = search.is.tests;
@@ -119,6 +120,7 @@ static int take_line(struct picture *p, struct source *from)
     if (strcmp(word, "path") && strcmp(word, "none"))
         return complain_at(&at, "'%s' where 'path' or 'none' should stand", word);
     net->state = word[0] == 'p' ? HAS_PATH : NO_PATH;
+    net->counted = true;
     net->first = p->count;
     net->vertices = 0;
     if (net->state == HAS_PATH)
@@ -133,15 +135,48 @@ static int take_line(struct picture *p, struct source *from)
     return status == DONE && !at_line_end(from) ? wrong_here(from, "the line's end") : status;
 }
 
+/* The routes of a route file; each net must be one of the job's, each point on its board. */
+static int take_records(struct picture *p, const struct file *file)
+{
+    static struct routes routes;
+    int status = take_routes(&routes, file);
+    for (size_t i = 0, at = 0; status == DONE && i < routes.is.nets; i++) {
+        struct trace *net = p->net;
+        while (net < p->net + p->nets && net->number != routes.nets[i])
+            net++;
+        if (net == p->net + p->nets)
+            return complain("%s: this job has no net %d", file->name, (int)routes.nets[i]);
+        net->state = routes.counts[i] ? HAS_PATH : NO_PATH;
+        net->counted = false;
+        net->first = p->count;
+        net->vertices = routes.counts[i];
+        for (size_t end = at + routes.counts[i]; at < end; at++) {
+            if (routes.xs[at] > p->board->is.width || routes.ys[at] > p->board->is.height)
+                return complain("%s: the vertex %d,%d of net %d is off this job's board", file->name, (int)routes.xs[at],
+                                (int)routes.ys[at], net->number);
+            if (!add_point(p, routes.xs[at], routes.ys[at]))
+                return complain("no memory for the paths");
+        }
+    }
+    return status;
+}
+
+/* The lines of the route program, or records, as bytes or hex. */
 static int read_routes(struct picture *p, const char *name)
 {
+    static struct file file;
     static struct source from;
-    int status = open_source(&from, name);
+    int status = read_file(&file, name);
     if (status != DONE)
         return status;
+    if (!file.text || (file.bytes[0] != 'n' && file.bytes[0] != 'r')) {
+        status = file.text ? hex_bytes(&file) : DONE;
+        return status == DONE ? take_records(p, &file) : status;
+    }
+    open_bytes(&from, file.name, file.bytes, file.length);
     for (next_byte(&from); status == DONE && from.byte >= 0; next_byte(&from))
         status = take_line(p, &from);
-    return close_source(&from, status);
+    return status;
 }
 
 static void take_nets(struct picture *p)

@@ -4,7 +4,7 @@
 
 #include <string.h>
 
-enum { MOST_NETS = 255, MOST_BYTE = 255 };
+enum { MOST_BYTE = 255 };
 
 struct net {
     uint8_t number, ends[4]; /* start x, y; goal x, y */

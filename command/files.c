@@ -52,6 +52,7 @@ int complain_at(const struct place *place, const char *format, ...)
 int open_source(struct source *from, const char *name)
 {
     from->at = from->end = 0;
+    from->bytes = from->piece;
     from->byte = 0;
     from->failed = false;
     from->here = (struct place){ name, 1, 0 };
@@ -62,6 +63,18 @@ int open_source(struct source *from, const char *name)
     }
     from->file = open(name, O_RDONLY | O_CLOEXEC);
     return from->file < 0 ? complain("%s cannot be opened: %s", name, strerror(errno)) : DONE;
+}
+
+/* What is read already, as a source. */
+void open_bytes(struct source *from, const char *name, const uint8_t *bytes, size_t length)
+{
+    from->byte = 0;
+    from->here = (struct place){ name, 1, 0 };
+    from->file = -1;
+    from->bytes = bytes;
+    from->at = 0;
+    from->end = length;
+    from->failed = false;
 }
 
 /* Whether what failed is worth trying again; waits until it is. */
@@ -78,6 +91,8 @@ static bool again(int file, short events)
 static bool fill(struct source *from)
 {
     ssize_t got;
+    if (from->file < 0)
+        return false;
     do
         got = read(from->file, from->piece, PIECE);
     while (got < 0 && again(from->file, POLLIN));
@@ -99,7 +114,7 @@ int next_byte(struct source *from)
         from->here.line++;
         from->here.column = 0;
     }
-    from->byte = from->piece[from->at++];
+    from->byte = from->bytes[from->at++];
     if ((from->byte & 0xc0) != 0x80) /* a letter of several bytes is one column */
         from->here.column++;
     return from->byte;
@@ -131,7 +146,7 @@ int wrong_here(const struct source *from, const char *wanted)
 /* What was found in the file, unless a read failed. */
 int close_source(struct source *from, int status)
 {
-    if (from->file != IN)
+    if (from->file > IN)
         close(from->file);
     return from->failed ? WRONG : status;
 }

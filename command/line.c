@@ -13,10 +13,11 @@ void put_route(const struct search *search, size_t width)
                                   search->path, is->vertices, line, sizeof line).bytes);
 }
 
-/* What the places of a number are, in words; the numbers of a job name a record. */
+/* What the places of a number are, in words; the numbers of a job and of a route file name a record. */
 static void tell_place(uint64_t number, uint64_t place, uint64_t second)
 {
-    bool record = (number >= WEXXOLIN_BOARD_PLACE && number <= WEXXOLIN_LATE_KEEPOUT) || number == WEXXOLIN_UNUSED_BYTE;
+    bool record = (number >= WEXXOLIN_BOARD_PLACE && number <= WEXXOLIN_LATE_KEEPOUT) || number == WEXXOLIN_ROUTE_ORDER ||
+                  number == WEXXOLIN_UNUSED_BYTE;
     if (number == WEXXOLIN_BAD_CELL)
         fprintf(stderr, ": cell %llu", (unsigned long long)place);
     if (number == WEXXOLIN_FILLING_BIT)

@@ -13,8 +13,10 @@ static const struct subcommand {
     { "job", "[--hex] [TEXT]", "makes a job of a drawn board: rows of . and #, then lines such as 'net 7 0,0 12,5'", 0, 2,
       run_job },
     { "text", "[JOB]", "prints a job as a drawn board with its nets", 0, 1, run_text },
-    { "draw", "[--expanded] [--net N] [JOB [ROUTES]]", "draws a job with its routes, or with the lines in ROUTES, as SVG", 0, 5,
-      run_draw },
+    { "draw", "[--expanded] [--net N] [JOB [ROUTES]]", "draws a job with its routes, or with the lines or records of ROUTES", 0,
+      5, run_draw },
+    { "records", "[JOB]", "writes the routes of a job's nets as records of 8 bytes", 0, 1, run_records },
+    { "read", "[ROUTES]", "prints what a file of route records says, a line for each net", 0, 1, run_read },
     { "explain", "[N]", "says what the number N of a refusal means and what to do; all of them without N", 0, 1, run_explain },
     { "sight", "JOB AX,AY BX,BY | W H CELLS AX AY BX BY",
       "says what stops a leg first: clear, cell X Y, edge X Y X Y, or vertex X Y (a pinched one)", 3, 7, run_sight },
@@ -32,7 +34,7 @@ static int help(void)
     put("usage: wexxolin SUBCOMMAND [WORD...]\n\n");
     for (size_t i = 0; i < SUBCOMMANDS; i++)
         put("  wexxolin %s %s\n        %s\n", table[i].name, table[i].words, table[i].says);
-    put("\nA job is a file of 8-byte records, or the same in hex with # comments; - or nothing is standard input.\n"
+    put("\nA job or a route file has 8-byte records, or the same in hex with # comments; - or nothing is standard input.\n"
         "Packed boards and cells are always bytes.\n"
         "Status: 0 done, 1 refused, 2 used wrongly or a file that cannot be read or written.\n"
         "--help and --version stand anywhere.\n");

@@ -4,8 +4,6 @@
 
 #include "command.h"
 
-enum { MOST_NETS = 255 };
-
 struct point {
     uint8_t x, y;
 };
@@ -15,6 +13,7 @@ struct trace {
     const char *name;
     struct point start, goal;
     enum { NOT_ROUTED, NO_PATH, HAS_PATH } state;
+    bool counted; /* length and counts are known; records have none */
     uint64_t units, expansions, tests;
     size_t first, vertices; /* its part of the points */
     bool shown;

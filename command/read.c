@@ -3,6 +3,7 @@
 #include "command.h"
 
 #include <stdio.h>
+#include <stdlib.h>
 #include <string.h>
 
 struct text {
@@ -130,6 +131,51 @@ int read_bytes(uint8_t *to, size_t room, size_t *length, const char *name)
         if (*length < room)
             to[(*length)++] = (uint8_t)from.byte;
     return close_source(&from, status);
+}
+
+/* A whole file of any length; whether it is text is seen on the way. */
+int read_file(struct file *file, const char *name)
+{
+    static struct source from;
+    int status = open_source(&from, name);
+    if (status != DONE)
+        return status;
+    file->name = from.here.name;
+    file->text = true;
+    while (next_byte(&from) >= 0) {
+        if (file->length == file->room) {
+            file->room = file->room ? 2 * file->room : PIECE;
+            uint8_t *bytes = realloc(file->bytes, file->room);
+            if (!bytes)
+                return close_source(&from, complain("no memory for %s", file->name));
+            file->bytes = bytes;
+        }
+        file->text = file->text && of_text(from.byte);
+        file->bytes[file->length++] = (uint8_t)from.byte;
+    }
+    file->text = file->text && file->length > 0;
+    return close_source(&from, status);
+}
+
+/* The bytes of hex text in the place of the text. */
+int hex_bytes(struct file *file)
+{
+    static struct source from;
+    size_t digits = 0;
+    bool comment = false;
+    open_bytes(&from, file->name, file->bytes, file->length);
+    while (next_byte(&from) >= 0) {
+        int value = hex_value(from.byte);
+        comment = from.byte == '#' || (comment && from.byte != '\n');
+        if (comment || from.byte == ' ' || from.byte == '\t' || from.byte == '\r' || from.byte == '\n')
+            continue;
+        if (value < 0)
+            return wrong_here(&from, "a hex digit");
+        file->bytes[digits / 2] = (uint8_t)(digits % 2 ? file->bytes[digits / 2] << 4 | value : value);
+        digits++;
+    }
+    file->length = digits / 2;
+    return digits % 2 ? complain_at(&from.here, "the last byte has one hex digit, not two") : DONE;
 }
 
 /* The job's board by the library; a refusal is printed. */

@@ -285,7 +285,9 @@ static void put_entry(const struct frame *f, size_t index, double x, double y, b
     snprintf(words, sizeof words, "net %d", net->number);
     put_text(x + 40, y + 11, 14, ink, "font-weight='bold'", words);
     double after = x + 48 + 8.2 * (double)strlen(words);
-    if (net->state == HAS_PATH)
+    if (net->state == HAS_PATH && !net->counted)
+        snprintf(words, sizeof words, "%d leg%s", net->vertices > 0 ? (int)net->vertices - 1 : 0, net->vertices == 2 ? "" : "s");
+    else if (net->state == HAS_PATH)
         snprintf(words, sizeof words, "%.3f cells, %d leg%s", (double)net->units / WEXXOLIN_UNITS_PER_CELL,
                  net->vertices > 0 ? (int)net->vertices - 1 : 0, net->vertices == 2 ? "" : "s");
     else
@@ -293,7 +295,7 @@ static void put_entry(const struct frame *f, size_t index, double x, double y, b
     put_text(after, y + 11, 13, net->state == NO_PATH ? warning : ink, "", words);
     if (brief)
         return;
-    if (net->state != NOT_ROUTED)
+    if (net->counted)
         snprintf(words, sizeof words, "%llu expanded, %llu tests%s", (unsigned long long)net->expansions,
                  (unsigned long long)net->tests, *net->name ? " · " : "");
     else

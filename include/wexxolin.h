@@ -1,9 +1,9 @@
-/* Wexxolin for C: line of sight, leg length and direction, the route search, the job reader and packed boards, as proved.
+/* Wexxolin for C: line of sight, leg length and direction, the route search, the job reader, packed boards and route files, as proved.
 
    Every call takes every input, and every struct begins with the number that it hands back, its place and its second place. A
    value is 0 where its row has none, so it is 0 with every refusal. The places are 0 but where it is said:
 
-      0  accepted; for a route, a path found             11  job length no multiple of 8
+      0  accepted; for a route, a path found             11  length of a job or route file no multiple of 8
       1  width or height outside 1 to 63                 12  record 0 is not a board, or a later one is (place: record)
       2  number of cells is not width * height           13  unknown type (place: record)
       3  a cell byte is not 0 or 1 (place: its index)    14  board side outside 1 to 63 (place: record)
@@ -14,6 +14,7 @@
       8  no path (a result: both counts are given)       19  board slice shorter than the cells
       9  direction of a leg with equal ends              20  no net with that index
      10  job longer than 8,192 bytes                     21  output slice too short
+     22  a route file's record out of order (place: record)
      23  an unused byte of a record not 0 (place: record; second: byte)
      29  wrong number of packed bytes                    30  a filling bit set (place: the first such byte's index)
 
@@ -37,10 +38,10 @@ extern "C" {
 
 /* The version of this header, and the call that tells the library's; both are the same number where the two belong together. */
 #define WEXXOLIN_MAJOR 2
-#define WEXXOLIN_MINOR 0
+#define WEXXOLIN_MINOR 1
 #define WEXXOLIN_PATCH 0
 #define WEXXOLIN_VERSION (WEXXOLIN_MAJOR * 10000 + WEXXOLIN_MINOR * 100 + WEXXOLIN_PATCH)
-#define WEXXOLIN_VERSION_TEXT "2.0.0"
+#define WEXXOLIN_VERSION_TEXT "2.1.0"
 uint64_t wexxolin_version(void);
 
 /* The library's name for each other call carries the call's edition, which rises when its parameters or its struct change: so an
@@ -80,6 +81,7 @@ enum wexxolin_number {
     WEXXOLIN_SHORT_BOARD = 19,
     WEXXOLIN_NO_NET = 20,
     WEXXOLIN_SHORT_OUTPUT = 21,
+    WEXXOLIN_ROUTE_ORDER = 22,
     WEXXOLIN_UNUSED_BYTE = 23,
     WEXXOLIN_PACKED_LENGTH = 29,
     WEXXOLIN_FILLING_BIT = 30
@@ -100,7 +102,7 @@ static inline const char *wexxolin_text(uint64_t number)
     case WEXXOLIN_NO_PATH: return "no path";
     case WEXXOLIN_NO_DIRECTION: return "a leg with equal ends has no direction";
     case WEXXOLIN_LONG_JOB: return "the job is longer than 8,192 bytes";
-    case WEXXOLIN_CUT_JOB: return "the job's length is no multiple of 8";
+    case WEXXOLIN_CUT_JOB: return "the length of a job or route file is no multiple of 8";
     case WEXXOLIN_BOARD_PLACE: return "record 0 is not a board, or a later one is";
     case WEXXOLIN_UNKNOWN_TYPE: return "a record of unknown type";
     case WEXXOLIN_BAD_BOARD: return "a board side outside 1 to 63";
@@ -111,6 +113,7 @@ static inline const char *wexxolin_text(uint64_t number)
     case WEXXOLIN_SHORT_BOARD: return "the board slice is shorter than the cells";
     case WEXXOLIN_NO_NET: return "no net with that index";
     case WEXXOLIN_SHORT_OUTPUT: return "the output slice is too short";
+    case WEXXOLIN_ROUTE_ORDER: return "a route file's record out of order";
     case WEXXOLIN_UNUSED_BYTE: return "an unused byte of a record is not 0";
     case WEXXOLIN_PACKED_LENGTH: return "the number of packed bytes is not that of the board";
     case WEXXOLIN_FILLING_BIT: return "a filling bit of a packed row is set";
@@ -229,6 +232,40 @@ struct wexxolin_line wexxolin_line(uint64_t net, uint64_t number, uint64_t place
                                    size_t path_len, uint8_t *out, size_t out_len)
     WEXXOLIN_EDITION(wexxolin_line_1);
 
+/* A route file has records of 8 bytes: type 4 (net number, the place in the path from 0 in two bytes, low byte first, x, y, and two
+   zero bytes) for each point of a path, type 5 (net number and six zeros) for a net with no path. Net numbers rise from above 0. In
+   slices: nets has the net numbers, counts how many points each net has, 0 for no path, xs and ys the points' x and y, net after net. */
+
+/* The routes of a file of any length, which may be empty. nets and points are how many entries were written to nets and counts, and
+   to xs and ys: at most 255 nets and file_len / 8 points. Refusals 11, then in each record 13, 23 and 22; last 21 for a slice that is
+   too short. */
+struct wexxolin_read_routes {
+    uint64_t number, place, second, nets, points;
+};
+struct wexxolin_read_routes wexxolin_read_routes(const uint8_t *file, size_t file_len, uint8_t *nets, size_t nets_len,
+                                                 size_t *counts, size_t counts_len, uint8_t *xs, size_t xs_len,
+                                                 uint8_t *ys, size_t ys_len)
+    WEXXOLIN_EDITION(wexxolin_read_routes_1);
+
+/* The file of routes: records * 8 bytes are written. counts needs an entry for each entry of nets, xs and ys one for each point that is
+   counted. Refusals 22, judged of what would be written, with the record (a net number that is not above the one before; in a path of
+   more than 65,536 points the record whose place two bytes do not hold); then 21 for any slice that is too short. */
+struct wexxolin_write_routes {
+    uint64_t number, place, second, records;
+};
+struct wexxolin_write_routes wexxolin_write_routes(const uint8_t *nets, size_t nets_len, const size_t *counts, size_t counts_len,
+                                                   const uint8_t *xs, size_t xs_len, const uint8_t *ys, size_t ys_len,
+                                                   uint8_t *file, size_t file_len)
+    WEXXOLIN_EDITION(wexxolin_write_routes_1);
+
+/* The x and y of a path's vertex numbers on a board of this width. Refusals 1 (the width), 4 (a vertex whose y is above 63) and 21. */
+struct wexxolin_path_points {
+    uint64_t number, place, second;
+};
+struct wexxolin_path_points wexxolin_path_points(const wexxolin_vertex *path, size_t path_len, size_t width,
+                                                 uint8_t *xs, size_t xs_len, uint8_t *ys, size_t ys_len)
+    WEXXOLIN_EDITION(wexxolin_path_points_1);
+
 /* Each answer under one name, for C++ too, where a function hides the struct of the same name. */
 typedef struct wexxolin_sight wexxolin_sight_answer;
 typedef struct wexxolin_length wexxolin_length_answer;
@@ -239,6 +276,9 @@ typedef struct wexxolin_net wexxolin_net_answer;
 typedef struct wexxolin_pack wexxolin_pack_answer;
 typedef struct wexxolin_count_packed wexxolin_count_packed_answer;
 typedef struct wexxolin_line wexxolin_line_answer;
+typedef struct wexxolin_read_routes wexxolin_read_routes_answer;
+typedef struct wexxolin_write_routes wexxolin_write_routes_answer;
+typedef struct wexxolin_path_points wexxolin_path_points_answer;
 
 /* The structs are as long as the library takes them to be: else one of these arrays has no length, and nothing compiles. */
 typedef char wexxolin_sight_is_72_bytes[sizeof(wexxolin_sight_answer) == 72 ? 1 : -1];
@@ -250,6 +290,9 @@ typedef char wexxolin_net_is_64_bytes[sizeof(wexxolin_net_answer) == 64 ? 1 : -1
 typedef char wexxolin_pack_is_24_bytes[sizeof(wexxolin_pack_answer) == 24 ? 1 : -1];
 typedef char wexxolin_count_packed_is_32_bytes[sizeof(wexxolin_count_packed_answer) == 32 ? 1 : -1];
 typedef char wexxolin_line_is_32_bytes[sizeof(wexxolin_line_answer) == 32 ? 1 : -1];
+typedef char wexxolin_read_routes_is_40_bytes[sizeof(wexxolin_read_routes_answer) == 40 ? 1 : -1];
+typedef char wexxolin_write_routes_is_32_bytes[sizeof(wexxolin_write_routes_answer) == 32 ? 1 : -1];
+typedef char wexxolin_path_points_is_24_bytes[sizeof(wexxolin_path_points_answer) == 24 ? 1 : -1];
 typedef char wexxolin_size_is_8_bytes[sizeof(size_t) == 8 && sizeof(double) == 8 ? 1 : -1];
 
 #ifdef __cplusplus

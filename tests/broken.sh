@@ -9,10 +9,11 @@ work=$OUT/broken
 rm -rf "$work"
 mkdir -p "$work/bench" "$work/include" "$work/tests/second"
 cp "$root/include/wexxolin.h" "$work/include"
-for part in tests/agree tests/angles tests/far tests/packed tests/printed tests/stack tests/thrown tests/rooms tests/boards tests/second/second tests/second/printer; do
+for part in tests/agree tests/angles tests/far tests/packed tests/printed tests/routes tests/stack tests/thrown tests/rooms tests/boards tests/second/second tests/second/printer; do
     $CC $FLAGS -c -o "$work/$(basename $part).o" "$root/$part.c"
 done
 $CC $FLAGS -c -o "$work/packer.o" "$root/tests/second/packed.c"
+$CC $FLAGS -c -o "$work/recorder.o" "$root/tests/second/routes.c"
 $CC $FLAGS -o "$work/thrown" "$work/thrown.o" "$work/boards.o" "$work/second.o"
 # the stack of the fast router when it is whole, in KiB
 $CC $FLAGS -o "$work/stack" "$work/stack.o" "$work/rooms.o" "$work/boards.o" $LIBRARY
@@ -57,14 +58,14 @@ broken() {
     harness=${4:-agree}
     cp "$root/bench/fast.c" "$root/bench/fast.h" "$root/bench/fast_library.c" "$work/bench"
     change "$1" "$root/bench/$2" "$work/bench/$2" "$3"
-    with="$work/rooms.o $work/boards.o $work/second.o $work/packer.o $work/printer.o"
+    with="$work/rooms.o $work/boards.o $work/second.o $work/packer.o $work/printer.o $work/recorder.o"
     $CC $FLAGS -w -o "$work/$harness" "$work/$harness.o" $with "$work/bench/fast.c" "$work/bench/fast_library.c"
     rm -f "$work/$1.hex"
     case $harness in
     agree) judge "$1" $RUN "$work/agree" 1 1 "$work/$1.hex" ;;
     angles) judge "$1" $RUN "$work/angles" 1 1 ;;
     far) judge "$1" $RUN "$work/far" 1 1 ;;
-    packed | printed) judge "$1" $RUN "$work/$harness" 1 1 ;;
+    packed | printed | routes) judge "$1" $RUN "$work/$harness" 1 1 ;;
     stack) judge "$1" $RUN "$work/stack" $fast_kib ;;
     esac
 }
@@ -348,6 +349,90 @@ broken line-short-as-19 fast_library.c 's/\{21, 0, 0, 0\}/{19, 0, 0, 0}/' printe
 broken line-bytes-with-21 fast_library.c 's/\{21, 0, 0, 0\}/{21, 0, 0, pen.length}/' printed
 broken line-last-vertex-lost fast_library.c 's/i < path_len && pen/i + (path_len > 100) < path_len \&\& pen/' printed
 
+# route files: the records
+broken routes-place-bytes-exchanged fast_library.c 's/r\[2\] \| \(size_t\)r\[3\] << 8/r[3] | (size_t)r[2] << 8/' routes
+broken routes-place-in-8-bits fast_library.c 's/size_t place = r\[2\] \| .*?;/size_t place = r[2];/' routes
+broken routes-next-in-16-bits fast_library.c 's/\? place \+ 1 : SIZE_MAX/? (uint16_t)(place + 1) : SIZE_MAX/' routes
+broken routes-written-high-byte-first fast_library.c 's/\(uint8_t\)p, \(uint8_t\)\(p >> 8\)/(uint8_t)(p >> 8), (uint8_t)p/' routes
+broken routes-written-high-byte-lost fast_library.c 's/\(uint8_t\)\(p >> 8\)/0/' routes
+broken routes-x-and-y-exchanged fast_library.c 's/\*xs\+\+ = r\[4\]/*xs++ = r[5]/; s/\*ys\+\+ = r\[5\];\n/*ys++ = r[4];\n/' routes
+broken routes-written-x-for-y fast_library.c 's/\*xs\+\+, \*ys\+\+\}/*ys++, *xs++}/' routes
+broken routes-none-as-point fast_library.c 's/\{5, nets\[n\]\}/{4, nets[n]}/' routes
+broken routes-none-as-one-point fast_library.c 's/\*counts\+\+ = 0;/*counts++ = r[0] == 5;/' routes
+broken routes-x-in-7-bits fast_library.c 's/\*xs\+\+ = r\[4\]/*xs++ = r[4] \& 127/' routes
+
+# route files: what is refused in reading
+broken routes-eleven-unread fast_library.c 's/if \(file_len % 8 != 0\)/if (0)/' routes
+broken routes-eleven-after-13 fast_library.c 's/if \(file_len % 8 != 0\)/if (file_len % 8 != 0 \&\& (file_len < 8 || file[0] == 4 || file[0] == 5))/' routes
+broken routes-type-3-known fast_library.c 's/r\[0\] != 4 && r\[0\] != 5/r[0] < 3 || r[0] > 5/' routes
+broken routes-type-6-known fast_library.c 's/r\[0\] != 4 && r\[0\] != 5/r[0] < 4 || r[0] > 6/' routes
+broken routes-22-before-13 fast_library.c 's/(        if \(r\[0\] != 4.*?0\);\n)(.*?)(        if \(r\[1\] == 0.*?0\);\n)/$3$1$2/s' routes
+broken routes-22-before-23 fast_library.c 's/(        for \(size_t k = r\[0\] == 4.*?k\);\n)(        if \(r\[1\] == 0.*?0\);\n)/$2$1/s' routes
+broken routes-23-before-13 fast_library.c 's/(        if \(r\[0\] != 4.*?0\);\n)(        for \(size_t k = r\[0\] == 4.*?k\);\n)/$2$1/s' routes
+broken routes-byte-7-unread fast_library.c 's/\? 6 : 2; k < 8/? 6 : 2; k < 7/' routes
+broken routes-byte-6-unread fast_library.c 's/\? 6 : 2; k < 8/? 7 : 2; k < 8/' routes
+broken routes-none-as-free-as-point fast_library.c 's/\? 6 : 2; k < 8/? 6 : 6; k < 8/' routes
+broken routes-highest-byte-named fast_library.c 's/for \(size_t k = r\[0\] == 4 \? 6 : 2; k < 8; k\+\+\)/for (size_t k = 7; k > (r[0] == 4 ? 5 : 1); k--)/' routes
+broken routes-byte-lost fast_library.c 's/\(23, i, k\)/(23, i, 0)/' routes
+broken routes-13-second-place fast_library.c 's/\(13, i, 0\)/(13, i, i)/' routes
+broken routes-net-0 fast_library.c 's/r\[1\] == 0 \|\| r\[1\] < last/r[1] < last/' routes
+broken routes-net-falls fast_library.c 's/r\[1\] == 0 \|\| r\[1\] < last/r[1] == 0/' routes
+broken routes-net-goes-on-refused fast_library.c 's/r\[1\] < last \|\|/r[1] <= last ||/' routes
+broken routes-first-place-any fast_library.c 's/place != \(r\[1\] == last \? next : 0\)/(r[1] == last \&\& place != next)/' routes
+broken routes-later-place-any fast_library.c 's/place != \(r\[1\] == last \? next : 0\)/place != (r[1] == last ? place : 0)/' routes
+broken routes-place-skipped fast_library.c 's/place != \(r\[1\] == last \? next : 0\)/(r[1] == last ? place < next : place != 0)/' routes
+broken routes-place-again fast_library.c 's/place != \(r\[1\] == last \? next : 0\)/(r[1] == last ? place > next || next == SIZE_MAX : place != 0)/' routes
+broken routes-point-0-after-none fast_library.c 's/: SIZE_MAX;/: 0;/' routes
+broken routes-point-1-after-none fast_library.c 's/: SIZE_MAX;/: 1;/' routes
+broken routes-none-after-point fast_library.c 's/place != \(r\[1\] == last \? next : 0\)/place != (r[1] == last \&\& (r[0] == 4 || next == SIZE_MAX) ? next : 0)/' routes
+broken routes-record-from-1 fast_library.c 's/\(22, i, 0\)/(22, i + 1, 0)/' routes
+broken routes-last-record-unread fast_library.c 's/i < file_len \/ 8; i\+\+\) \{\n(\s+const uint8_t \*r = file)/i + 1 < file_len \/ 8; i++) {\n$1/' routes
+broken routes-empty-refused fast_library.c 's/file_len % 8 != 0/file_len % 8 != 0 || file_len == 0/' routes
+broken routes-8192-bytes fast_library.c 's/file_len % 8 != 0/file_len % 8 != 0 || file_len > 8192/' routes
+broken routes-nets-exact fast_library.c 's/nets_len < answer\.nets/nets_len <= answer.nets/' routes
+broken routes-counts-unjudged fast_library.c 's/counts_len < answer\.nets/nets_len < answer.nets/' routes
+broken routes-points-exact fast_library.c 's/xs_len < answer\.points/xs_len <= answer.points/' routes
+broken routes-y-unjudged fast_library.c 's/ys_len < answer\.points/xs_len < answer.points/' routes
+broken routes-room-for-all-records fast_library.c 's/ys_len < answer\.points/ys_len < file_len \/ 8/' routes
+broken routes-short-as-19 fast_library.c 's/refused_routes\(21, 0, 0\)/refused_routes(19, 0, 0)/' routes
+broken routes-sizes-with-22 fast_library.c 's/return refused_routes\(22, i, 0\);/return (struct wexxolin_read_routes){22, i, 0, 0, answer.points};/' routes
+
+# route files: what is refused in writing
+broken routes-equal-net-written fast_library.c 's/if \(nets\[n\] <= last\)/if (nets[n] < last || nets[n] == 0)/' routes
+broken routes-net-0-written fast_library.c 's/if \(nets\[n\] <= last\)/if (nets[n] <= last \&\& n > 0)/' routes
+broken routes-longest-refused fast_library.c 's/count > 65536/count >= 65536/' routes
+broken routes-longer-written fast_library.c 's/count > 65536/count > 65537/' routes
+broken routes-net-named fast_library.c 's/\{22, records \+ 65536, 0, 0\}/{22, records, 0, 0}/' routes
+broken routes-last-good-named fast_library.c 's/\{22, records \+ 65536, 0, 0\}/{22, records + 65535, 0, 0}/' routes
+broken routes-index-named fast_library.c 's/\{22, records, 0, 0\}/{22, n, 0, 0}/' routes
+broken routes-none-takes-no-room fast_library.c 's/records \+= count == 0 \? 1 : count/records += count/' routes
+broken routes-21-before-22 fast_library.c 's/(    size_t records = 0, points = 0;\n)/$1    if (counts_len < nets_len)\n        return (struct wexxolin_write_routes){21, 0, 0, 0};\n/' routes
+broken routes-file-exact fast_library.c 's/file_len < 8 \* records/file_len <= 8 * records/' routes
+broken routes-file-a-record-short fast_library.c 's/file_len < 8 \* records/file_len + 8 < 8 * records/' routes
+broken routes-file-a-byte-short fast_library.c 's/file_len < 8 \* records/file_len + 1 < 8 * records/' routes
+broken routes-written-y-unjudged fast_library.c 's/xs_len < points \|\| ys_len < points/xs_len < points/' routes
+broken routes-records-lost fast_library.c 's/\{0, 0, 0, records\}/{0, 0, 0, points}/' routes
+
+# route files: what is written, and what is touched
+broken routes-nets-beyond fast_library.c 's/(    return answer;\n\}\n\nstruct wexxolin_write_routes)/    if (nets_len > answer.nets) *nets = 0;\n$1/' routes
+broken routes-file-beyond fast_library.c 's/(    return \(struct wexxolin_write_routes\)\{0)/    if (file_len > 8 * records) *file = 0;\n$1/' routes
+broken routes-written-with-21 fast_library.c 's/(        return refused_routes\(21)/        { if (nets_len) *nets = file[1];\n$1/; s/(refused_routes\(21, 0, 0\);)/$1 }/' routes
+broken routes-written-with-22 fast_library.c 's/(        if \(nets\[n\] <= last\))/        if (n == 1 \&\& file_len) *file = 5;\n$1/' routes
+broken routes-read-behind fast_library.c 's/(    size_t next = 0;)/    (void)((const volatile uint8_t *)file)[file_len];\n$1/' routes
+broken routes-read-before fast_library.c 's/(    size_t next = 0;)/    (void)((const volatile uint8_t *)file)[-1];\n$1/' routes
+broken routes-count-read-behind fast_library.c 's/n < counts_len \? counts\[n\] : 0/((const volatile size_t *)counts)[n]/' routes
+
+# paths into points
+broken points-width-64 fast_library.c 's/(wexxolin_path_points\(.*?)width - 1 > LARGEST_SIDE - 1/$1width - 1 > LARGEST_SIDE/s' routes
+broken points-width-0 fast_library.c 's/(wexxolin_path_points\(.*?)width - 1 > LARGEST_SIDE - 1/$1width > LARGEST_SIDE/s' routes
+broken points-y-63-refused fast_library.c 's/\(width \+ 1\) > LARGEST_SIDE\)/(width + 1) >= LARGEST_SIDE)/' routes
+broken points-y-64 fast_library.c 's/\(width \+ 1\) > LARGEST_SIDE\)/(width + 1) > LARGEST_SIDE + 1)/' routes
+broken points-by-width fast_library.c 's/path\[i\] % \(width \+ 1\)/path[i] % width/' routes
+broken points-exchanged fast_library.c 's/path\[i\] % \(width \+ 1\)\);/path[i] \/ (width + 1));/; s/(ys\[i\] = .*?)path\[i\] \/ \(width/$1path[i] % (width/' routes
+broken points-21-before-4 fast_library.c 's/(    for \(size_t i = 0; i < path_len; i\+\+\)\n.*?\{4, 0, 0\};\n)(    if \(xs_len < path_len.*?;\n)/$2$1/s' routes
+broken points-exact-refused fast_library.c 's/ys_len < path_len/ys_len <= path_len/' routes
+broken points-y-unjudged fast_library.c 's/xs_len < path_len \|\| ys_len < path_len/xs_len < path_len/' routes
+
 # lengths and numbers cut to fewer bits
 broken cells-length-in-32-bits fast.c 's/cells_len != width/(uint32_t)cells_len != width/' far
 broken cells-length-in-16-bits fast.c 's/cells_len != width/(uint16_t)cells_len != width/' far
@@ -376,6 +461,16 @@ broken packed-height-in-8-bits fast_library.c 's/height - 1 > LARGEST_SIDE - 1/(
 broken packed-far-end-cleared fast_library.c 's/(    for \(size_t y = 0; y < height; y\+\+, cells \+= width\))/    if (cells_len >> 32) cells[cells_len - 1] = 0;\n$1/' far
 broken line-slice-in-32-bits fast_library.c 's/pen\.length > out_len/pen.length > (uint32_t)out_len/' far
 broken line-path-in-32-bits fast_library.c 's/i < path_len && pen/i < (uint32_t)path_len \&\& pen/' far
+broken routes-file-length-in-32-bits fast_library.c 's/i < file_len \/ 8; i\+\+\) \{\n(\s+const uint8_t \*r = file)/i < (uint32_t)file_len \/ 8; i++) {\n$1/' far
+broken routes-nets-length-in-32-bits fast_library.c 's/nets_len < answer\.nets/(uint32_t)nets_len < answer.nets/' far
+broken routes-counts-length-in-16-bits fast_library.c 's/counts_len < answer\.nets/(uint16_t)counts_len < answer.nets/' far
+broken routes-points-length-in-31-bits fast_library.c 's/xs_len < answer\.points/(xs_len \& 0x7fffffff) < answer.points/' far
+broken routes-slice-length-in-32-bits fast_library.c 's/file_len < 8 \* records/(uint32_t)file_len < 8 * records/' far
+broken routes-written-nets-in-32-bits fast_library.c 's/(size_t records = 0, points = 0;\n)/$1    nets_len = (uint32_t)nets_len;\n/' far
+broken routes-count-in-32-bits fast_library.c 's/size_t count = n < counts_len/uint32_t count = n < counts_len/' routes
+broken points-width-in-32-bits fast_library.c 's/(wexxolin_path_points\(.*?)width - 1 > LARGEST_SIDE - 1/$1(uint32_t)width - 1 > LARGEST_SIDE - 1/s' far
+broken points-length-in-32-bits fast_library.c 's/xs_len < path_len/(uint32_t)xs_len < path_len/' far
+broken points-path-in-32-bits fast_library.c 's/(wexxolin_path_points\(.*?\n\{\n)/$1    path_len = (uint32_t)path_len;\n/s' far
 
 # any angle
 broken angles-neighbour-edge fast.c 's/\(sw & nw\) \* W/(sw | nw) * W/' angles

@@ -1,6 +1,6 @@
 #!/usr/bin/env python3
-"""command.py: tries target/wexxolin: the table tests/command.table, every job of tests/jobs, random boards drawn and read back,
-random boards packed, and every command of README.md but the gate."""
+"""command.py: tries target/wexxolin: the table tests/command.table, every job of tests/jobs and its route records, random boards drawn
+and read back, random boards packed, and every command of README.md but the gate."""
 import glob
 import os
 import random
@@ -63,16 +63,34 @@ def job_bytes(name):
         return bytes.fromhex("".join(row.split("#")[0] for row in file))
 
 
+def route_records(lines):
+    """The records of what the route program printed, made here, and what they say."""
+    records, says = b"", ""
+    for line in lines.decode().splitlines():
+        words = line.split()
+        net, path = int(words[1]), words[words.index("at") + 1 :] if words[2] == "path" else []
+        for place, point in enumerate(path):
+            records += bytes((4, net, place % 256, place // 256, *map(int, point.split(",")), 0, 0))
+        records += b"" if path else bytes((5, net, 0, 0, 0, 0, 0, 0))
+        says += " ".join(["net %d" % net, "at" if path else "none", *path]) + "\n"
+    return records, says.encode()
+
+
 def jobs():
-    """The lines of each job from its hex text and from its bytes; accepted jobs to text and back."""
+    """The lines of each job from its hex text and from its bytes, its routes as records and read back; accepted jobs to text and back."""
     for name in sorted(glob.glob("tests/jobs/*.hex")):
         with open(name[:-4] + ".expected", "rb") as file:
             expected = file.read()
         job, status = job_bytes(name), 1 if expected.startswith(b"refused") else 0
         out, _, ended = wexxolin("route", name)
         check(name, (out, ended), (expected, status))
+        records, says = (expected, b"") if status else route_records(expected)
+        out, _, ended = wexxolin("records", name)
+        check(name + " as records", (out, ended), (records, status))
+        if status == 0:
+            check(name + " as records, read", wexxolin("read", given=records), (says, b"", 0))
         program = subprocess.run(["target/wexxolin-route"], input=job, stdout=subprocess.PIPE)
-        check(name + " by the route program", program.stdout, out)
+        check(name + " by the route program", program.stdout, expected)
         if job and all(b >= 32 or b in b"\t\n\r" for b in job):
             continue  # such bytes are text by the command's rule
         out, _, ended = wexxolin("route", given=job)

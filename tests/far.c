@@ -9,6 +9,7 @@
 #include "rooms.h"
 #include "second/packed.h"
 #include "second/printer.h"
+#include "second/routes.h"
 #include "second/second.h"
 
 #include <stdio.h>
@@ -293,6 +294,116 @@ static void far_line(size_t width)
     compare_line(width + far_numbers[below(NUMBERS)], below(100), 0, lent);
 }
 
+/* ---------- route files ---------- */
+
+/* How many entries each slice has: file in cells, nets in marks, counts in g, xs in board, ys in packed. */
+struct routes_case {
+    size_t file, nets, counts, xs, ys;
+};
+
+static void tell_routes(const char *call, const struct routes_case *c)
+{
+    snprintf(request, sizeof request, "%s: a file of %zu bytes, %zu nets, %zu counts, %zu x, %zu y", call, c->file, c->nets, c->counts,
+             c->xs, c->ys);
+}
+
+static void compare_read(const struct routes_case *c)
+{
+    tell_routes("routes read", c);
+    const uint8_t *file = room_lend(&cells.room, c->file, AT_FRONT);
+    uint8_t *nets = lend(&marks, c->nets, 1), *xs = lend(&board, c->xs, 1), *ys = lend(&packed, c->ys, 1);
+    size_t *counts = lend(&g, c->counts, sizeof *counts);
+    struct wexxolin_read_routes a = wexxolin_read_routes(file, c->file, nets, c->nets, counts, c->counts, xs, c->xs, ys, c->ys);
+    struct wexxolin_read_routes b =
+        second_read_routes(file, c->file, marks.ours, c->nets, g.ours, c->counts, board.ours, c->xs, packed.ours, c->ys);
+    compare(&a, &b, sizeof a);
+    compare_slice(&marks);
+    compare_slice(&g);
+    compare_slice(&board);
+    compare_slice(&packed);
+}
+
+static void compare_write(const struct routes_case *c)
+{
+    tell_routes("routes written", c);
+    const uint8_t *nets = room_lend(&marks.room, c->nets, AT_FRONT), *xs = room_lend(&board.room, c->xs, AT_FRONT);
+    const uint8_t *ys = room_lend(&packed.room, c->ys, AT_FRONT);
+    const size_t *counts = room_lend(&g.room, c->counts * sizeof *counts, AT_FRONT);
+    uint8_t *file = lend(&cells, c->file, 1);
+    struct wexxolin_write_routes a = wexxolin_write_routes(nets, c->nets, counts, c->counts, xs, c->xs, ys, c->ys, file, c->file);
+    struct wexxolin_write_routes b =
+        second_write_routes(nets, c->nets, counts, c->counts, xs, c->xs, ys, c->ys, cells.ours, c->file);
+    compare(&a, &b, sizeof a);
+    compare_slice(&cells);
+}
+
+/* A few routes in the slices; the first net has a path. What lies beyond has small counts, so that a net more is judged soon. */
+static struct routes_case throw_routes(void)
+{
+    struct routes_case c = {0, 1 + below(5), 0, 0, 0};
+    size_t *counts = (size_t *)g.room.ours;
+    c.counts = c.nets;
+    for (size_t k = 0; k < 300; k++)
+        counts[k] = k == 0 ? 1 + below(9) : below(4);
+    for (size_t k = 0; k < c.nets; k++) {
+        marks.room.ours[k] = (uint8_t)(10 * k + 1 + below(9));
+        c.file += 8 * (counts[k] == 0 ? 1 : counts[k]);
+        c.xs += counts[k];
+    }
+    c.ys = c.xs;
+    dice_fill(&dice, board.room.ours, c.xs);
+    dice_fill(&dice, packed.room.ours, c.ys);
+    return c;
+}
+
+/* The slices far longer than needed, in writing and in reading, then the file. */
+static void far_routes(void)
+{
+    struct routes_case c = throw_routes(), longer = c;
+    size_t *lengths[] = {&longer.file, &longer.counts, &longer.xs, &longer.ys};
+    for (size_t k = 0; k < 4; k++)
+        stretch(lengths[k]);
+    compare_write(&longer);
+    stretch(&longer.nets);
+    compare_write(&longer);
+    longer = c;
+    second_write_routes(marks.room.ours, c.nets, (size_t *)g.room.ours, c.counts, board.room.ours, c.xs, packed.room.ours, c.ys,
+                        cells.room.ours, FIRST);
+    stretch(&longer.nets);
+    for (size_t k = 1; k < 4; k++)
+        stretch(lengths[k]);
+    compare_read(&longer);
+    longer.file += far_lengths[below(LENGTHS)];
+    compare_read(&longer);
+}
+
+static void compare_points(size_t width, size_t vertices, size_t xs_len, size_t ys_len)
+{
+    snprintf(request, sizeof request, "points: width %zu, %zu vertices, slices of %zu and %zu lent", width, vertices, xs_len, ys_len);
+    const wexxolin_vertex *numbers = room_lend(&path.room, vertices * sizeof *numbers, AT_FRONT);
+    uint8_t *xs = lend(&board, xs_len, 1), *ys = lend(&packed, ys_len, 1);
+    struct wexxolin_path_points a = wexxolin_path_points(numbers, vertices, width, xs, xs_len, ys, ys_len);
+    struct wexxolin_path_points b = second_path_points(numbers, vertices, width, board.ours, xs_len, packed.ours, ys_len);
+    compare(&a, &b, sizeof a);
+    compare_slice(&board);
+    compare_slice(&packed);
+}
+
+/* Slices far longer than the path, a width far beyond, and a far longer path, which goes on with a vertex that is off every board. */
+static void far_points(size_t width)
+{
+    wexxolin_vertex *numbers = (wexxolin_vertex *)path.room.ours;
+    size_t vertices = 1 + below(100), xs_len = vertices, ys_len = vertices;
+    for (size_t k = 0; k < vertices; k++)
+        numbers[k] = (wexxolin_vertex)below(64 * (width + 1));
+    stretch(&xs_len);
+    stretch(&ys_len);
+    compare_points(width, vertices, xs_len, ys_len);
+    compare_points(width + far_numbers[below(NUMBERS)], vertices, xs_len, ys_len);
+    numbers[vertices] = (wexxolin_vertex)(64 * (width + 1));
+    compare_points(width, vertices + far_lengths[below(LENGTHS)], xs_len, ys_len);
+}
+
 /* ---------- all ---------- */
 
 int main(int argc, char **argv)
@@ -317,6 +428,8 @@ int main(int argc, char **argv)
         far_job();
         far_packed(size[0], size[1]);
         far_line(size[0]);
+        far_routes();
+        far_points(size[0]);
     }
     printf("%-34s %10llu calls compared\n", "far slices and numbers", (unsigned long long)calls);
     return 0;

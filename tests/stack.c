@@ -15,6 +15,7 @@
 #include <ucontext.h>
 
 enum { SIDE = 63, CELLS = SIDE * SIDE, VERTICES = (SIDE + 1) * (SIDE + 1), STACK = 1 << 20, PAINT = 0xa5 };
+enum { NETS = 255, POINTS = 20 * NETS };
 
 static struct dice dice;
 static struct room stack;
@@ -23,6 +24,8 @@ static uint64_t g[VERTICES];
 static wexxolin_vertex parents[VERTICES], legs[VERTICES], path[VERTICES];
 static struct job job;
 static size_t from_x, from_y;
+static uint8_t nets[NETS], xs[POINTS], ys[POINTS], file[8 * POINTS];
+static size_t counts[NETS], points, file_bytes;
 
 /* Set by each call, so that none is left out. */
 static volatile uint64_t number;
@@ -43,6 +46,13 @@ static void call_unpack(void) { number = wexxolin_unpack(packed, sizeof packed, 
 static void call_line(void) { number = wexxolin_line(1, 0, 0, 0, 1, 2, 3, SIDE, path, VERTICES, line, sizeof line).number; }
 static void call_count(void) { number = wexxolin_count_packed(packed, sizeof packed, SIDE, SIDE).number; }
 
+static void call_write(void)
+{
+    number = wexxolin_write_routes(nets, NETS, counts, NETS, xs, points, ys, points, file, sizeof file).number;
+}
+static void call_read(void) { number = wexxolin_read_routes(file, file_bytes, nets, NETS, counts, NETS, xs, POINTS, ys, POINTS).number; }
+static void call_points(void) { number = wexxolin_path_points(path, VERTICES, SIDE, xs, POINTS, ys, POINTS).number; }
+
 /* The bytes of the stack, from its upper end, down to the lowest one that the call changed. */
 static size_t bytes_used(void (*call)(void))
 {
@@ -60,6 +70,18 @@ static size_t bytes_used(void (*call)(void))
     return STACK - unchanged;
 }
 
+/* Routes of as many nets as there are, and their file. */
+static void throw_routes(void)
+{
+    points = 0;
+    for (size_t net = 0; net < NETS; net++) {
+        nets[net] = (uint8_t)(net + 1);
+        counts[net] = dice_below(&dice, POINTS / NETS);
+        points += counts[net];
+    }
+    file_bytes = 8 * wexxolin_write_routes(nets, NETS, counts, NETS, xs, points, ys, points, file, sizeof file).records;
+}
+
 /* Boards on which the search takes other ways: open ground, dead ends, many and few vertices in its list, no path. */
 static void throw_board(size_t k)
 {
@@ -74,6 +96,7 @@ static void throw_board(size_t k)
     from_x = k % 3 ? dice_below(&dice, SIDE) : 0;
     from_y = k % 3 ? dice_below(&dice, SIDE) : 0;
     job_full(&dice, &job, SIDE, SIDE);
+    throw_routes();
 }
 
 static void tell_fault(const char *where)
@@ -89,7 +112,8 @@ int main(int argc, char **argv)
         void (*call)(void);
     } calls[] = {{"route", call_route},   {"sight", call_sight}, {"length", call_length}, {"direction", call_direction},
                  {"board", call_board},   {"net", call_net},     {"pack", call_pack},     {"unpack", call_unpack},
-                 {"count", call_count},   {"line", call_line}};
+                 {"count", call_count},   {"line", call_line},   {"write", call_write},   {"read", call_read},
+                 {"points", call_points}};
     size_t limit = argc > 1 ? 1024 * (size_t)strtoull(argv[1], NULL, 0) : 0, over = 0;
     dice = dice_of(1);
     room_open(&stack, "stack", STACK, WRITABLE);

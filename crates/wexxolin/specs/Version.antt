@@ -5,11 +5,11 @@ abbrev pub major : ℕ
 major = 2
 
 abbrev pub minor : ℕ
-minor = 0
+minor = 1
 
 abbrev pub patch : ℕ
 patch = 0
 
--- 20000 is version 2.0.0
+-- 20100 is version 2.1.0
 abbrev pub version : ℕ
 version = major * 10000 + minor * 100 + patch

@@ -7,11 +7,13 @@ ghost use Rattle.router.specs.Answers.{slices};
 ghost use Rattle.job.specs.Answers.{netRow};
 ghost use Rattle.packed.specs.Answers.{countRow};
 ghost use Rattle.packing.specs.Packing.{toldCount};
-ghost use Rattle.printing.specs.Printing.{printed};
+ghost use Rattle.tracks.specs.Layout as layout;
 ghost use Rattle.told.specs.Told.{toldSight, toldLength, toldDirection, toldNet};
-ghost use Rattle.wexxolin.specs.Calls.{RoutedForC, ReadForC, UnpackedForC, PackedForC, LineForC};
+ghost use Rattle.printing.specs.Printing.{printed};
 ghost use Rattle.wexxolin.specs.Version.{version};
+ghost use Rattle.wexxolin.specs.Calls.{RoutedForC, ReadForC, UnpackedForC, PackedForC, LineForC, RoutesReadForC, RoutesWrittenForC, PointsForC};
 use board::Vertex;
+use corners::path_points;
 use job::read_board;
 use job::read_net;
 use length::Direction;
@@ -27,6 +29,7 @@ use packing::inner::tell_written;
 use printing::Printed;
 use printing::inner::line_for;
 use printing::inner::tell_line;
+use readback::read_routes;
 use router::route;
 use sight::sight;
 use told::Found;
@@ -41,10 +44,17 @@ use told::inner::tell_length;
 use told::inner::tell_net;
 use told::inner::tell_route;
 use told::inner::tell_sight;
+use tracking::Recorded;
+use tracking::Routes;
+use tracking::Turned;
+use tracking::inner::tell_points;
+use tracking::inner::tell_records;
+use tracking::inner::tell_routes;
+use writeback::write_routes;
 use writing::write_line;
 
-// The version of the library, 20000 for 2.0.0.
-const VERSION: u64 = 20000;
+// The version of the library, 20100 for 2.1.0.
+const VERSION: u64 = 20100;
 
 // Which version the library is.
 #[no_mangle]
@@ -184,6 +194,47 @@ pub extern "C" fn wexxolin_count_packed_1(packed: &[u8], width: usize, height: u
     ensures { λ r. ⌜ r ≡ toldCount (countRow (now (packed .entry)) width height) ⌝ }
 {
     tell_count(count_blocked(packed, width, height))
+}
+
+// A route file into slices of routes.
+#[no_mangle]
+pub extern "C" fn wexxolin_read_routes_1(
+    file: &[u8],
+    nets: &mut [u8],
+    counts: &mut [usize],
+    xs: &mut [u8],
+    ys: &mut [u8],
+) -> Routes
+    ensures { λ r. ⌜ RoutesReadForC (now (file .entry)) (layout.slices (now (nets .entry)) (now (counts .entry)) (now (xs .entry)) (now (ys .entry))) r (layout.slices (now (nets .exit)) (now (counts .exit)) (now (xs .exit)) (now (ys .exit))) ⌝ }
+{
+    tell_routes(read_routes(file, nets, counts, xs, ys))
+}
+
+// Slices of routes into a route file.
+#[no_mangle]
+pub extern "C" fn wexxolin_write_routes_1(
+    nets: &[u8],
+    counts: &[usize],
+    xs: &[u8],
+    ys: &[u8],
+    file: &mut [u8],
+) -> Recorded
+    ensures { λ r. ⌜ RoutesWrittenForC (layout.slices (now (nets .entry)) (now (counts .entry)) (now (xs .entry)) (now (ys .entry))) (now (file .entry)) r (now (file .exit)) ⌝ }
+{
+    tell_records(write_routes(nets, counts, xs, ys, file))
+}
+
+// A path's vertex numbers into x and y.
+#[no_mangle]
+pub extern "C" fn wexxolin_path_points_1(
+    path: &[Vertex],
+    width: usize,
+    xs: &mut [u8],
+    ys: &mut [u8],
+) -> Turned
+    ensures { λ r. ⌜ PointsForC (now (path .entry)) width (now (xs .entry)) (now (ys .entry)) r (now (xs .exit)) (now (ys .exit)) ⌝ }
+{
+    tell_points(path_points(path, width, xs, ys))
 }
 
 // The line of a net or of a refusal, by what a route or a job's read handed back.

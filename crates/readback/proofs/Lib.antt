@@ -1,0 +1,4 @@
+pub mod Filling
+pub mod Taking
+pub mod Judging
+pub mod Answering

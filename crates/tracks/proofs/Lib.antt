@@ -1,0 +1,10 @@
+pub mod Before
+pub mod Bytes
+pub mod Trips
+pub mod Judged
+pub mod Laying
+pub mod Rising
+pub mod Sizes
+pub mod Determined
+pub mod Theorems
+pub mod Worked

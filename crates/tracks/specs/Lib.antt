@@ -1,0 +1,5 @@
+pub mod Tracks
+pub mod Faults
+pub mod Layout
+pub mod Answers
+pub mod Inner

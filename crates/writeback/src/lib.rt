@@ -1,0 +1,39 @@
+// The writer of route files: slices of net numbers, counts of points, and the points' x and y into records.
+ghost use Rattle.tracks.specs.Layout.{slices};
+ghost use Rattle.tracks.specs.Answers.{handedWrite, RoutesWritten};
+use lay::lay_routes;
+use measure::measure;
+use records::RECORD;
+use tracks::WriteAnswer;
+
+mod lay;
+mod measure;
+
+// What is known of the routes before they are written: how many records and points there are, or the record that is wrong.
+pub enum Measured {
+    Fits { records: usize, points: usize },
+    Wrong(usize),
+}
+
+// Writes the records of these routes into the lent slice: net after net, each with its points, or as none where its count is 0.
+pub fn write_routes(
+    nets: &[u8],
+    counts: &[usize],
+    xs: &[u8],
+    ys: &[u8],
+    file: &mut [u8],
+) -> WriteAnswer
+    ensures { λ r. ⌜ RoutesWritten (slices (now (nets .entry)) (now (counts .entry)) (now (xs .entry)) (now (ys .entry))) (now (file .entry)) (handedWrite r) (now (file .exit)) ⌝ }
+{
+    match measure(nets, counts) {
+        Measured::Wrong(record) => WriteAnswer::Order(record),
+        Measured::Fits { records, points } => {
+            let short = (counts.len() < nets.len()) | (file.len() < records * RECORD);
+            if short | ((xs.len() < points) | (ys.len() < points)) {
+                return WriteAnswer::Short;
+            }
+            lay_routes(nets, counts, xs, ys, file);
+            WriteAnswer::Written(records)
+        }
+    }
+}
