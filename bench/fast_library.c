@@ -1,5 +1,5 @@
 /* The functions of include/wexxolin.h by the fast router: what the harness and the measurements are tried on, and the
-   other column of the measurements. Its job reader, its packer, its printer and its route files are written apart from the second ones. */
+   other column of the measurements. Its job reader, its packer, its printer, its route files and its check of them are written apart from the second ones. */
 #include "fast.h"
 
 #include <stdio.h>
@@ -273,7 +273,7 @@ struct wexxolin_line wexxolin_line(uint64_t net, uint64_t number, uint64_t place
             put_number(&pen, " tests ", tests);
         } else
             put_number(&pen, " at ", place);
-        if (number == 23)
+        if (number == 23 || number == 26 || number == 27)
             put_number(&pen, " ", second);
         if (number == 0) {
             put(&pen, " at");
@@ -387,4 +387,102 @@ struct wexxolin_path_points wexxolin_path_points(const wexxolin_vertex *path, si
         ys[i] = (uint8_t)(path[i] / (width + 1));
     }
     return (struct wexxolin_path_points){0, 0, 0};
+}
+
+/* ---------- the check of routes ---------- */
+
+/* Where a net's records stand in a file that passed. */
+struct part {
+    const uint8_t *records;
+    size_t count;
+};
+
+static int is_pinched(const uint8_t *cells, size_t width, size_t height, size_t x, size_t y)
+{
+    if (x - 1 >= width - 1 || y - 1 >= height - 1)
+        return 0;
+    const uint8_t *se = cells + y * width + x, *ne = se - width;
+    return se[0] == ne[-1] && ne[0] == se[-1] && se[0] != ne[0];
+}
+
+/* 25, 26 and 27; adds up the units of the legs. */
+static struct wexxolin_check judge_net(const uint8_t *cells, size_t width, size_t height, struct wexxolin_net net, struct part part,
+                                       uint64_t *units)
+{
+    const uint8_t *first = part.records, *last = first + 8 * (part.count - 1);
+    *units = 0;
+    if (first[4] != net.sx || first[5] != net.sy || last[4] != net.gx || last[5] != net.gy)
+        return (struct wexxolin_check){25, net.net, 0, 0};
+    for (const uint8_t *r = first; r <= last; r += 8)
+        if (r[4] > width || r[5] > height)
+            return (struct wexxolin_check){26, net.net, (uint64_t)(r - first) / 8, 0};
+    for (const uint8_t *r = first; r < last; r += 8) {
+        const uint8_t *to = r + 8;
+        if ((r[4] == to[4] && r[5] == to[5]) || (to < last && is_pinched(cells, width, height, to[4], to[5])) ||
+            !fast_sight(cells, width * height, width, height, r[4], r[5], to[4], to[5]).sight)
+            return (struct wexxolin_check){27, net.net, (uint64_t)(r - first) / 8, 0};
+        *units += fast_units(to[4] - r[4], to[5] - r[5]);
+    }
+    return (struct wexxolin_check){0, 0, 0, 0};
+}
+
+struct wexxolin_check wexxolin_check(const uint8_t *job, size_t job_len, const uint8_t *routes, size_t routes_len,
+                                     uint8_t *board, size_t board_len, uint64_t *g, size_t g_len,
+                                     wexxolin_vertex *parents, size_t parents_len, uint8_t *marks, size_t marks_len,
+                                     wexxolin_vertex *legs, size_t legs_len, uint64_t *units, size_t units_len,
+                                     uint32_t *leg_counts, size_t leg_counts_len)
+{
+    uint8_t cells[LARGEST_SIDE * LARGEST_SIDE];
+    struct wexxolin_board read = wexxolin_board(job, job_len, cells, sizeof cells);
+    if (read.number)
+        return (struct wexxolin_check){read.number, read.place, read.second, 0};
+    struct wexxolin_read_routes judged = judge_routes(routes, routes_len);
+    if (judged.number)
+        return (struct wexxolin_check){judged.number, judged.place, judged.second, 0};
+    size_t count = read.width * read.height, vertices = (read.width + 1) * (read.height + 1);
+    if (board_len < count)
+        return (struct wexxolin_check){19, 0, 0, 0};
+    if (g_len < vertices || parents_len < vertices || marks_len < vertices || legs_len < vertices)
+        return (struct wexxolin_check){6, 0, 0, 0};
+    if (units_len < read.nets || leg_counts_len < read.nets)
+        return (struct wexxolin_check){21, 0, 0, 0};
+    memcpy(board, cells, count);
+
+    struct part parts[256] = {{NULL, 0}};
+    for (size_t i = routes_len / 8; i-- > 0;) {
+        struct part *part = &parts[routes[8 * i + 1]];
+        *part = (struct part){routes + 8 * i, part->count + 1};
+    }
+    struct wexxolin_net nets[256] = {{0, 0, 0, 0, 0, 0, 0, 0}};
+    for (size_t k = 0; k < read.nets; k++) {
+        struct wexxolin_net net = wexxolin_net(job, job_len, k);
+        nets[net.net] = net;
+    }
+    for (size_t n = 1; n < 256; n++)
+        if ((nets[n].net != 0) != (parts[n].count != 0))
+            return (struct wexxolin_check){24, n, 0, 0};
+
+    uint64_t lengths[256];
+    wexxolin_vertex path[1];
+    for (size_t n = 1; n < 256; n++) {
+        if (parts[n].count == 0)
+            continue;
+        if (parts[n].records[0] == 4) {
+            struct wexxolin_check answer = judge_net(cells, read.width, read.height, nets[n], parts[n], &lengths[n]);
+            if (answer.number)
+                return answer;
+        } else if (fast_route(cells, count, read.width, read.height, nets[n].sx, nets[n].sy, nets[n].gx, nets[n].gy, g, g_len, parents,
+                              parents_len, marks, marks_len, legs, legs_len, path, 0)
+                       .number != 8) {
+            return (struct wexxolin_check){28, n, 0, 0};
+        } else {
+            lengths[n] = 0;
+        }
+    }
+    for (size_t n = 1, k = 0; n < 256; n++)
+        if (parts[n].count != 0) {
+            units[k] = lengths[n];
+            leg_counts[k++] = (uint32_t)(parts[n].count - 1);
+        }
+    return (struct wexxolin_check){0, 0, 0, read.nets};
 }

@@ -124,5 +124,6 @@ int run_pack(int count, char **words);
 int run_count(int count, char **words);
 int run_records(int count, char **words);
 int run_read(int count, char **words);
+int run_check(int count, char **words);
 
 #endif

@@ -32,6 +32,13 @@ static const struct advice {
     { WEXXOLIN_ROUTE_ORDER,
       "The records of a net stand together, its places count up from 0, and net numbers rise: the place is the record." },
     { WEXXOLIN_UNUSED_BYTE, "Set the bytes that a record does not use to 0: the places are the record and its byte." },
+    { WEXXOLIN_ODD_NET, "The place is the lowest net number that only one of the two has: add its route, or take it out." },
+    { WEXXOLIN_WRONG_END, "The place is the net: its path goes from the job's start to the job's goal, start first." },
+    { WEXXOLIN_OFF_BOARD,
+      "The places are the net and the vertex's place in its path, from 0: x is at most the board's width, y at most its height." },
+    { WEXXOLIN_WRONG_LEG,
+      "The places are the net and the place of the leg's first vertex: 'wexxolin sight' says what stops the leg, if its ends differ." },
+    { WEXXOLIN_PATH_EXISTS, "The place is the net: 'wexxolin route' gives a path for it." },
     { WEXXOLIN_PACKED_LENGTH, "A packed board has HEIGHT rows of (WIDTH + 7) / 8 bytes: check the sides, or the file is cut off." },
     { WEXXOLIN_FILLING_BIT, "The bits behind a row's last cell are 0: the place is the first byte, from 0, in which one is not." },
 };

@@ -29,6 +29,12 @@ static void tell_place(uint64_t number, uint64_t place, uint64_t second)
                 (unsigned long long)(place * WEXXOLIN_RECORD_BYTES));
     if (number == WEXXOLIN_UNUSED_BYTE)
         fprintf(stderr, ", its byte %llu", (unsigned long long)second);
+    if (number >= WEXXOLIN_ODD_NET && number <= WEXXOLIN_PATH_EXISTS)
+        fprintf(stderr, ": net %llu", (unsigned long long)place);
+    if (number == WEXXOLIN_OFF_BOARD)
+        fprintf(stderr, ", vertex %llu of its path, from 0", (unsigned long long)second);
+    if (number == WEXXOLIN_WRONG_LEG)
+        fprintf(stderr, ", the leg from vertex %llu of its path, from 0", (unsigned long long)second);
     fputc('\n', stderr);
 }
 

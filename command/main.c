@@ -17,6 +17,8 @@ static const struct subcommand {
       5, run_draw },
     { "records", "[JOB]", "writes the routes of a job's nets as records of 8 bytes", 0, 1, run_records },
     { "read", "[ROUTES]", "prints what a file of route records says, a line for each net", 0, 1, run_read },
+    { "check", "JOB ROUTES", "checks a file of route records against a job, and prints each net's length in units and its legs", 2, 2,
+      run_check },
     { "explain", "[N]", "says what the number N of a refusal means and what to do; all of them without N", 0, 1, run_explain },
     { "sight", "JOB AX,AY BX,BY | W H CELLS AX AY BX BY",
       "says what stops a leg first: clear, cell X Y, edge X Y X Y, or vertex X Y (a pinched one)", 3, 7, run_sight },

@@ -1,4 +1,5 @@
-/* Wexxolin for C: line of sight, leg length and direction, the route search, the job reader, packed boards and route files, as proved.
+/* Wexxolin for C: line of sight, leg length and direction, the route search, the job reader, packed boards, route files and
+   the check of the layout bureau's routes, as proved.
 
    Every call takes every input, and every struct begins with the number that it hands back, its place and its second place. A
    value is 0 where its row has none, so it is 0 with every refusal. The places are 0 but where it is said:
@@ -16,6 +17,11 @@
      10  job longer than 8,192 bytes                     21  output slice too short
      22  a route file's record out of order (place: record)
      23  an unused byte of a record not 0 (place: record; second: byte)
+     24  a net missing, or not in the job (place: net)    25  a path's first or last vertex wrong (place: net)
+     26  a path's vertex off the board (place: net; second: the vertex's place in the path)
+     27  a path's leg of zero length, or without sight, or that ends in a pinched vertex which is not the path's last
+         (place: net; second: the place in the path of the leg's first vertex)
+     28  no path claimed where one exists (place: net)
      29  wrong number of packed bytes                    30  a filling bit set (place: the first such byte's index)
 
    Cells come row by row, a byte each: 0 free, 1 blocked. Vertices are cell corners, (0, 0) to (width, height); y grows downward.
@@ -38,10 +44,10 @@ extern "C" {
 
 /* The version of this header, and the call that tells the library's; both are the same number where the two belong together. */
 #define WEXXOLIN_MAJOR 2
-#define WEXXOLIN_MINOR 1
+#define WEXXOLIN_MINOR 2
 #define WEXXOLIN_PATCH 0
 #define WEXXOLIN_VERSION (WEXXOLIN_MAJOR * 10000 + WEXXOLIN_MINOR * 100 + WEXXOLIN_PATCH)
-#define WEXXOLIN_VERSION_TEXT "2.1.0"
+#define WEXXOLIN_VERSION_TEXT "2.2.0"
 uint64_t wexxolin_version(void);
 
 /* The library's name for each other call carries the call's edition, which rises when its parameters or its struct change: so an
@@ -83,6 +89,11 @@ enum wexxolin_number {
     WEXXOLIN_SHORT_OUTPUT = 21,
     WEXXOLIN_ROUTE_ORDER = 22,
     WEXXOLIN_UNUSED_BYTE = 23,
+    WEXXOLIN_ODD_NET = 24,
+    WEXXOLIN_WRONG_END = 25,
+    WEXXOLIN_OFF_BOARD = 26,
+    WEXXOLIN_WRONG_LEG = 27,
+    WEXXOLIN_PATH_EXISTS = 28,
     WEXXOLIN_PACKED_LENGTH = 29,
     WEXXOLIN_FILLING_BIT = 30
 };
@@ -115,6 +126,11 @@ static inline const char *wexxolin_text(uint64_t number)
     case WEXXOLIN_SHORT_OUTPUT: return "the output slice is too short";
     case WEXXOLIN_ROUTE_ORDER: return "a route file's record out of order";
     case WEXXOLIN_UNUSED_BYTE: return "an unused byte of a record is not 0";
+    case WEXXOLIN_ODD_NET: return "a net is missing, or not in the job";
+    case WEXXOLIN_WRONG_END: return "a path does not begin at its net's start and end at its goal";
+    case WEXXOLIN_OFF_BOARD: return "a path's vertex is off the board";
+    case WEXXOLIN_WRONG_LEG: return "a path's leg has zero length, or no sight, or ends in a pinched vertex that is not the last";
+    case WEXXOLIN_PATH_EXISTS: return "no path is claimed where one exists";
     case WEXXOLIN_PACKED_LENGTH: return "the number of packed bytes is not that of the board";
     case WEXXOLIN_FILLING_BIT: return "a filling bit of a packed row is set";
     default: return NULL;
@@ -218,11 +234,11 @@ struct wexxolin_count_packed {
 struct wexxolin_count_packed wexxolin_count_packed(const uint8_t *packed, size_t packed_len, size_t width, size_t height)
     WEXXOLIN_EDITION(wexxolin_count_packed_1);
 
-/* The route program's line for what the calls above hand back, as bytes without a final 0. number 0: the line of net with a path,
-   its vertex numbers printed as x,y by the board's width (0 counts as 1). 8: the line of net without a path. Every other number: that
-   of a refusal, number at place, with second for 23 alone. What a line does not name is not read. Refusal 21: out is shorter than the
-   line, and nothing is written. bytes is how many were written; WEXXOLIN_LONGEST_LINE always suffice for what the calls above hand
-   back, and a path of other vertices may take more. */
+/* The route program's line for what a call hands back, as bytes without a final 0. number 0: the line of net with a path, its vertex
+   numbers printed as x,y by the board's width (0 counts as 1). 8: the line of net without a path. Every other number: that of a refusal,
+   number at place, with second for 23, 26 and 27 alone. What a line does not name is not read. Refusal 21: out is shorter than the
+   line, and nothing is written. bytes is how many were written; WEXXOLIN_LONGEST_LINE always suffice for what the calls hand back, and
+   a path of other vertices may take more. */
 #define WEXXOLIN_LONGEST_LINE 24687
 struct wexxolin_line {
     uint64_t number, place, second, bytes;
@@ -266,6 +282,25 @@ struct wexxolin_path_points wexxolin_path_points(const wexxolin_vertex *path, si
                                                  uint8_t *xs, size_t xs_len, uint8_t *ys, size_t ys_len)
     WEXXOLIN_EDITION(wexxolin_path_points_1);
 
+/* Routes that come from the layout bureau, a route file, checked against a job. Accepted exactly if the file has the job's nets and no
+   others and each is right: its path begins at the net's start and ends at its goal, all vertices are on the board, no two successive
+   ones are equal, every leg has sight, and no vertex between the first and the last is pinched; or no path is claimed, and single moves
+   between visible neighbours do not join the start to the goal. Then nets is the number of nets, and units and leg_counts, which need
+   an entry for each net (255 always suffice), hold each path's length and its number of legs in file order, 0 where there is no path.
+   Refusals: those of the job (10 to 18 and 23), those of the file (11, 13, 23, 22), 19 for board, 6 for g, parents, marks or legs, 21
+   for units or leg_counts; then 24, the lowest net; then net by net 25, 26, 27 or 28. With 0, and from 24 on, board holds the job's
+   cells; units and leg_counts are written with 0 alone. It searches only where no path is claimed: g, parents, marks and legs, which
+   need (width + 1) * (height + 1) entries, are as the last search left them, and untouched if none ran. */
+struct wexxolin_check {
+    uint64_t number, place, second, nets;
+};
+struct wexxolin_check wexxolin_check(const uint8_t *job, size_t job_len, const uint8_t *routes, size_t routes_len,
+                                     uint8_t *board, size_t board_len, uint64_t *g, size_t g_len,
+                                     wexxolin_vertex *parents, size_t parents_len, uint8_t *marks, size_t marks_len,
+                                     wexxolin_vertex *legs, size_t legs_len, uint64_t *units, size_t units_len,
+                                     uint32_t *leg_counts, size_t leg_counts_len)
+    WEXXOLIN_EDITION(wexxolin_check_1);
+
 /* Each answer under one name, for C++ too, where a function hides the struct of the same name. */
 typedef struct wexxolin_sight wexxolin_sight_answer;
 typedef struct wexxolin_length wexxolin_length_answer;
@@ -279,6 +314,7 @@ typedef struct wexxolin_line wexxolin_line_answer;
 typedef struct wexxolin_read_routes wexxolin_read_routes_answer;
 typedef struct wexxolin_write_routes wexxolin_write_routes_answer;
 typedef struct wexxolin_path_points wexxolin_path_points_answer;
+typedef struct wexxolin_check wexxolin_check_answer;
 
 /* The structs are as long as the library takes them to be: else one of these arrays has no length, and nothing compiles. */
 typedef char wexxolin_sight_is_72_bytes[sizeof(wexxolin_sight_answer) == 72 ? 1 : -1];
@@ -293,6 +329,7 @@ typedef char wexxolin_line_is_32_bytes[sizeof(wexxolin_line_answer) == 32 ? 1 : 
 typedef char wexxolin_read_routes_is_40_bytes[sizeof(wexxolin_read_routes_answer) == 40 ? 1 : -1];
 typedef char wexxolin_write_routes_is_32_bytes[sizeof(wexxolin_write_routes_answer) == 32 ? 1 : -1];
 typedef char wexxolin_path_points_is_24_bytes[sizeof(wexxolin_path_points_answer) == 24 ? 1 : -1];
+typedef char wexxolin_check_is_32_bytes[sizeof(wexxolin_check_answer) == 32 ? 1 : -1];
 typedef char wexxolin_size_is_8_bytes[sizeof(size_t) == 8 && sizeof(double) == 8 ? 1 : -1];
 
 #ifdef __cplusplus

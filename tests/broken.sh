@@ -9,11 +9,12 @@ work=$OUT/broken
 rm -rf "$work"
 mkdir -p "$work/bench" "$work/include" "$work/tests/second"
 cp "$root/include/wexxolin.h" "$work/include"
-for part in tests/agree tests/angles tests/far tests/packed tests/printed tests/routes tests/stack tests/thrown tests/rooms tests/boards tests/second/second tests/second/printer; do
+for part in tests/agree tests/angles tests/check tests/far tests/packed tests/printed tests/routes tests/stack tests/thrown tests/rooms tests/boards tests/second/second tests/second/printer; do
     $CC $FLAGS -c -o "$work/$(basename $part).o" "$root/$part.c"
 done
 $CC $FLAGS -c -o "$work/packer.o" "$root/tests/second/packed.c"
 $CC $FLAGS -c -o "$work/recorder.o" "$root/tests/second/routes.c"
+$CC $FLAGS -c -o "$work/checker.o" "$root/tests/second/check.c"
 $CC $FLAGS -o "$work/thrown" "$work/thrown.o" "$work/boards.o" "$work/second.o"
 # the stack of the fast router when it is whole, in KiB
 $CC $FLAGS -o "$work/stack" "$work/stack.o" "$work/rooms.o" "$work/boards.o" $LIBRARY
@@ -58,14 +59,14 @@ broken() {
     harness=${4:-agree}
     cp "$root/bench/fast.c" "$root/bench/fast.h" "$root/bench/fast_library.c" "$work/bench"
     change "$1" "$root/bench/$2" "$work/bench/$2" "$3"
-    with="$work/rooms.o $work/boards.o $work/second.o $work/packer.o $work/printer.o $work/recorder.o"
+    with="$work/rooms.o $work/boards.o $work/second.o $work/packer.o $work/printer.o $work/recorder.o $work/checker.o"
     $CC $FLAGS -w -o "$work/$harness" "$work/$harness.o" $with "$work/bench/fast.c" "$work/bench/fast_library.c"
     rm -f "$work/$1.hex"
     case $harness in
     agree) judge "$1" $RUN "$work/agree" 1 1 "$work/$1.hex" ;;
     angles) judge "$1" $RUN "$work/angles" 1 1 ;;
     far) judge "$1" $RUN "$work/far" 1 1 ;;
-    packed | printed | routes) judge "$1" $RUN "$work/$harness" 1 1 ;;
+    check | packed | printed | routes) judge "$1" $RUN "$work/$harness" 1 1 ;;
     stack) judge "$1" $RUN "$work/stack" $fast_kib ;;
     esac
 }
@@ -340,6 +341,7 @@ broken line-width-in-16-bits fast_library.c 's/width < 65536 \? width \+ 1 : 655
 broken line-vertex-beyond-board fast_library.c 's/path\[i\] \/ row\)/path[i] \/ row < 64 ? path[i] \/ row : 63)/' printed
 broken line-second-of-24 fast_library.c 's/number == 23/number == 23 || number == 24/' printed
 broken line-second-lost fast_library.c 's/number == 23/number == 22/' printed
+broken line-second-of-26-lost fast_library.c 's/ \|\| number == 26//' printed
 broken line-none-of-9 fast_library.c 's/number == 8 \? " none/number == 8 || number == 9 ? " none/; s/number == 0 \|\| number == 8/number == 0 || number == 8 || number == 9/g' printed
 broken line-exact-slice-refused fast_library.c 's/pen\.length > out_len/pen.length >= out_len/' printed
 broken line-short-slice-written fast_library.c 's/(            return \(struct wexxolin_line\)\{21)/            { if (out_len) out[0] = 110;\n$1/; s/(wexxolin_line\)\{21, 0, 0, 0\};)/$1 }/' printed
@@ -471,6 +473,27 @@ broken routes-count-in-32-bits fast_library.c 's/size_t count = n < counts_len/u
 broken points-width-in-32-bits fast_library.c 's/(wexxolin_path_points\(.*?)width - 1 > LARGEST_SIDE - 1/$1(uint32_t)width - 1 > LARGEST_SIDE - 1/s' far
 broken points-length-in-32-bits fast_library.c 's/xs_len < path_len/(uint32_t)xs_len < path_len/' far
 broken points-path-in-32-bits fast_library.c 's/(wexxolin_path_points\(.*?\n\{\n)/$1    path_len = (uint32_t)path_len;\n/s' far
+
+# the check of routes
+broken check-file-net-passes fast_library.c 's/\(nets\[n\]\.net != 0\) != \(parts\[n\]\.count != 0\)/nets[n].net != 0 \&\& parts[n].count == 0/' check
+broken check-missing-net-passes fast_library.c 's/\(nets\[n\]\.net != 0\) != \(parts\[n\]\.count != 0\)/nets[n].net == 0 \&\& parts[n].count != 0/' check
+broken check-start-unjudged fast_library.c 's/first\[4\] != net\.sx \|\| first\[5\] != net\.sy \|\| //' check
+broken check-goal-unjudged fast_library.c 's/ \|\| last\[4\] != net\.gx \|\| last\[5\] != net\.gy//' check
+broken check-x-off-passes fast_library.c 's/r\[4\] > width \|\| //' check
+broken check-y-off-passes fast_library.c 's/ \|\| r\[5\] > height\)/)/' check
+broken check-26-place-lost fast_library.c 's/\{26, net\.net, \(uint64_t\)\(r - first\) \/ 8/{26, net.net, 0/' check
+broken check-last-leg-unasked fast_library.c 's/r < last; r \+= 8\) \{/r + 8 < last; r += 8) {/' check
+broken check-zero-leg-passes fast_library.c 's/\(r\[4\] == to\[4\] && r\[5\] == to\[5\]\) \|\| //' check
+broken check-sight-unasked fast_library.c 's/ \|\|\n            !fast_sight\(.*?\)\.sight\)/)/s' check
+broken check-pinched-passes fast_library.c 's/to < last && is_pinched/0 \&\& is_pinched/' check
+broken check-pinched-goal-refused fast_library.c 's/to < last && is_pinched/is_pinched/' check
+broken check-27-second-vertex fast_library.c 's/\{27, net\.net, \(uint64_t\)\(r - first\)/{27, net.net, (uint64_t)(to - first)/' check
+broken check-none-believed fast_library.c 's/\.number != 8\)/.number == 77)/' check
+broken check-legs-as-points fast_library.c 's/\(uint32_t\)\(parts\[n\]\.count - 1\)/(uint32_t)parts[n].count/' check
+broken check-legs-slice-unjudged fast_library.c 's/ \|\| legs_len < vertices//' check
+broken check-counts-slice-unjudged fast_library.c 's/ \|\| leg_counts_len < read\.nets//' check
+broken check-cells-not-left fast_library.c 's/    memcpy\(board, cells, count\);\n//' check
+broken check-units-length-in-32-bits fast_library.c 's/units_len < read\.nets/(uint32_t)units_len < read.nets/' far
 
 # any angle
 broken angles-neighbour-edge fast.c 's/\(sw & nw\) \* W/(sw | nw) * W/' angles

@@ -7,6 +7,7 @@
    ends the run with 1. */
 #include "boards.h"
 #include "rooms.h"
+#include "second/check.h"
 #include "second/packed.h"
 #include "second/printer.h"
 #include "second/routes.h"
@@ -59,7 +60,7 @@ struct slice {
     void *ours;
 };
 
-static struct slice cells, g, parents, marks, legs, path, job, board, packed;
+static struct slice cells, g, parents, marks, legs, path, job, board, packed, routes, units, leg_counts;
 
 static void open_slice(struct slice *slice, const char *name, size_t size)
 {
@@ -404,6 +405,58 @@ static void far_points(size_t width)
     compare_points(width, vertices + far_lengths[below(LENGTHS)], xs_len, ys_len);
 }
 
+/* ---------- the check of routes ---------- */
+
+struct check_case {
+    size_t job, routes, board, g, parents, marks, legs, units, leg_counts;
+};
+
+static void compare_check(const struct check_case *c)
+{
+    snprintf(request, sizeof request,
+             "check: job %zu, routes %zu, board %zu, g %zu, parents %zu, marks %zu, legs %zu, units %zu, leg_counts %zu", c->job,
+             c->routes, c->board, c->g, c->parents, c->marks, c->legs, c->units, c->leg_counts);
+    const uint8_t *bytes = room_lend(&job.room, c->job, AT_FRONT), *records = room_lend(&routes.room, c->routes, AT_FRONT);
+    uint8_t *lent_board = lend(&board, c->board, 1), *lent_marks = lend(&marks, c->marks, 1);
+    uint64_t *lent_g = lend(&g, c->g, sizeof *lent_g), *lent_units = lend(&units, c->units, sizeof *lent_units);
+    wexxolin_vertex *lent_parents = lend(&parents, c->parents, sizeof *lent_parents);
+    wexxolin_vertex *lent_legs = lend(&legs, c->legs, sizeof *lent_legs);
+    uint32_t *lent_counts = lend(&leg_counts, c->leg_counts, sizeof *lent_counts);
+    struct wexxolin_check a = wexxolin_check(bytes, c->job, records, c->routes, lent_board, c->board, lent_g, c->g, lent_parents,
+                                             c->parents, lent_marks, c->marks, lent_legs, c->legs, lent_units, c->units, lent_counts,
+                                             c->leg_counts);
+    struct wexxolin_check b = second_check(bytes, c->job, records, c->routes, board.ours, c->board, g.ours, c->g, parents.ours, c->parents,
+                                           marks.ours, c->marks, legs.ours, c->legs, units.ours, c->units, leg_counts.ours, c->leg_counts);
+    compare(&a, &b, sizeof a);
+    const struct slice *written[] = {&board, &g, &parents, &marks, &legs, &units, &leg_counts};
+    for (size_t k = 0; k < sizeof written / sizeof *written; k++)
+        compare_slice(written[k]);
+}
+
+/* A job of a few nets for which no path is claimed, with slices far longer than needed; then job or file far longer. */
+static void far_check(void)
+{
+    static struct job thrown;
+    job_random(&dice, &thrown, 3, 3, 6);
+    memcpy(job.room.ours, thrown.bytes, thrown.length);
+    struct wexxolin_board read = second_board(thrown.bytes, thrown.length, board.ours, FIRST);
+    for (size_t k = 0; k < read.nets; k++) {
+        uint8_t record[8] = {5, (uint8_t)second_net(thrown.bytes, thrown.length, k).net, 0, 0, 0, 0, 0, 0};
+        memcpy(routes.room.ours + 8 * k, record, 8);
+    }
+    size_t vertices = (read.width + 1) * (read.height + 1);
+    struct check_case c = {thrown.length, 8 * read.nets, read.width * read.height, vertices, vertices, vertices, vertices,
+                           read.nets, read.nets};
+    size_t *lengths[] = {&c.board, &c.g, &c.parents, &c.marks, &c.legs, &c.units, &c.leg_counts};
+    for (size_t k = 0; k < sizeof lengths / sizeof *lengths; k++)
+        if (*lengths[k] > 0 && below(3) > 0)
+            stretch(lengths[k]);
+    compare_check(&c);
+    *(below(2) ? &c.job : &c.routes) += far_lengths[below(LENGTHS)];
+    compare_check(&c);
+    memset(routes.room.ours, 0, 8 * read.nets);
+}
+
 /* ---------- all ---------- */
 
 int main(int argc, char **argv)
@@ -420,6 +473,9 @@ int main(int argc, char **argv)
     open_slice(&job, "job", 1);
     open_slice(&board, "board", 1);
     open_slice(&packed, "packed", 1);
+    open_slice(&routes, "routes", 1);
+    open_slice(&units, "units", sizeof(uint64_t));
+    open_slice(&leg_counts, "leg_counts", sizeof(uint32_t));
     rooms_watch(tell_fault);
     for (size_t k = 0; k < 2100 * scale; k++) {
         const size_t *size = sizes[k % (sizeof sizes / sizeof *sizes)];
@@ -430,6 +486,7 @@ int main(int argc, char **argv)
         far_line(size[0]);
         far_routes();
         far_points(size[0]);
+        far_check();
     }
     printf("%-34s %10llu calls compared\n", "far slices and numbers", (unsigned long long)calls);
     return 0;

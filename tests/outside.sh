@@ -4,7 +4,7 @@
 set -eu
 . "$(dirname "$0")/settings.sh"
 scale=${1:-1} seed=${2:-1}
-rooms=$OUT/rooms.o boards=$OUT/boards.o second=$OUT/second.o packer=$OUT/packer.o printer=$OUT/printer.o recorder=$OUT/recorder.o
+rooms=$OUT/rooms.o boards=$OUT/boards.o second=$OUT/second.o packer=$OUT/packer.o printer=$OUT/printer.o recorder=$OUT/recorder.o checker=$OUT/checker.o
 running=
 trap 'kill $running 2>/dev/null || true' EXIT
 
@@ -32,12 +32,14 @@ part second "$root/tests/second/second.c"
 part packer "$root/tests/second/packed.c"
 part printer "$root/tests/second/printer.c"
 part recorder "$root/tests/second/routes.c"
+part checker "$root/tests/second/check.c"
 build thrown "$root/tests/thrown.c" "$boards" "$second"
-build far "$root/tests/far.c" "$rooms" "$boards" "$second" "$packer" "$printer" "$recorder"
+build far "$root/tests/far.c" "$rooms" "$boards" "$second" "$packer" "$printer" "$recorder" "$checker"
 build packed "$root/tests/packed.c" "$rooms" "$boards" "$packer"
 build angles "$root/tests/angles.c" "$boards" "$second"
 build printed "$root/tests/printed.c" "$rooms" "$boards" "$second" "$printer"
 build records "$root/tests/routes.c" "$rooms" "$boards" "$recorder"
+build check "$root/tests/check.c" "$rooms" "$boards" "$second" "$checker"
 build stack "$root/tests/stack.c" "$rooms" "$boards"
 build example "$root/examples/route.c"
 finish agree
@@ -53,6 +55,7 @@ $RUN "$OUT/packed" "$scale" "$seed"
 $RUN "$OUT/angles" "$scale" "$seed"
 $RUN "$OUT/printed" "$scale" "$seed"
 $RUN "$OUT/records" "$scale" "$seed"
+$RUN "$OUT/check" "$scale" "$seed"
 
 # the figure that the header states for its callers
 kib=$(sed -n 's/.* \([0-9][0-9]*\) KiB of stack.*/\1/p' "$root/include/wexxolin.h" | sort -n | tail -n 1)
@@ -76,4 +79,4 @@ lost=$(sed -n 's/^\([0-9]*\) passed, 0 failed$/\1/p' "$OUT/lost.out")
 finish routes
 running=
 
-echo "$((passed + lost + 11)) passed, 0 failed"
+echo "$((passed + lost + 12)) passed, 0 failed"

@@ -120,7 +120,7 @@ static uint64_t any_number(void)
 
 static void any_values(struct values *v)
 {
-    static const uint64_t numbers[] = {0, 0, 0, 8, 8, 23, 1, 7, 9, 10, 12, 18, 19, 22, 24, 80, 230, UINT64_MAX};
+    static const uint64_t numbers[] = {0, 0, 0, 8, 8, 23, 26, 27, 1, 7, 9, 10, 12, 18, 19, 22, 24, 25, 28, 80, 230, 260, UINT64_MAX};
     static const size_t widths[] = {0, 1, 2, 9, 10, 63, 64, 99, 100, 65534, 65535, 65536, SIZE_MAX};
     v->net = any_number(), v->place = any_number(), v->second = any_number(), v->units = any_number();
     v->expansions = any_number(), v->tests = any_number();

@@ -22,6 +22,9 @@ static struct room stack;
 static uint8_t cells[CELLS], marks[VERTICES], board[CELLS], packed[8 * SIDE], line[WEXXOLIN_LONGEST_LINE];
 static uint64_t g[VERTICES];
 static wexxolin_vertex parents[VERTICES], legs[VERTICES], path[VERTICES];
+static uint8_t claims[255 * WEXXOLIN_RECORD_BYTES];
+static uint64_t units[255];
+static uint32_t leg_counts[255];
 static struct job job;
 static size_t from_x, from_y;
 static uint8_t nets[NETS], xs[POINTS], ys[POINTS], file[8 * POINTS];
@@ -44,6 +47,12 @@ static void call_net(void) { number = wexxolin_net(job.bytes, job.length, 254).n
 static void call_pack(void) { number = wexxolin_pack(cells, CELLS, SIDE, SIDE, packed, sizeof packed).number; }
 static void call_unpack(void) { number = wexxolin_unpack(packed, sizeof packed, SIDE, SIDE, board, CELLS).number; }
 static void call_line(void) { number = wexxolin_line(1, 0, 0, 0, 1, 2, 3, SIDE, path, VERTICES, line, sizeof line).number; }
+static void call_check(void)
+{
+    number = wexxolin_check(job.bytes, job.length, claims, sizeof claims, board, CELLS, g, VERTICES, parents, VERTICES, marks, VERTICES,
+                            legs, VERTICES, units, 255, leg_counts, 255)
+                 .number;
+}
 static void call_count(void) { number = wexxolin_count_packed(packed, sizeof packed, SIDE, SIDE).number; }
 
 static void call_write(void)
@@ -82,6 +91,22 @@ static void throw_routes(void)
     file_bytes = 8 * wexxolin_write_routes(nets, NETS, counts, NETS, xs, points, ys, points, file, sizeof file).records;
 }
 
+/* A route file for the job's nets, 1 to 255: no path for all of them, or a path of one vertex. */
+static void throw_claims(size_t k)
+{
+    for (size_t net = 1; net <= 255; net++) {
+        struct wexxolin_net ends = wexxolin_net(job.bytes, job.length, net - 1);
+        uint8_t *record = claims + WEXXOLIN_RECORD_BYTES * (net - 1);
+        memset(record, 0, WEXXOLIN_RECORD_BYTES);
+        record[0] = k % 2 ? 4 : 5;
+        record[1] = (uint8_t)net;
+        if (record[0] == 4) {
+            record[4] = (uint8_t)ends.sx;
+            record[5] = (uint8_t)ends.sy;
+        }
+    }
+}
+
 /* Boards on which the search takes other ways: open ground, dead ends, many and few vertices in its list, no path. */
 static void throw_board(size_t k)
 {
@@ -97,6 +122,7 @@ static void throw_board(size_t k)
     from_y = k % 3 ? dice_below(&dice, SIDE) : 0;
     job_full(&dice, &job, SIDE, SIDE);
     throw_routes();
+    throw_claims(k);
 }
 
 static void tell_fault(const char *where)
@@ -113,7 +139,7 @@ int main(int argc, char **argv)
     } calls[] = {{"route", call_route},   {"sight", call_sight}, {"length", call_length}, {"direction", call_direction},
                  {"board", call_board},   {"net", call_net},     {"pack", call_pack},     {"unpack", call_unpack},
                  {"count", call_count},   {"line", call_line},   {"write", call_write},   {"read", call_read},
-                 {"points", call_points}};
+                 {"points", call_points}, {"check", call_check}};
     size_t limit = argc > 1 ? 1024 * (size_t)strtoull(argv[1], NULL, 0) : 0, over = 0;
     dice = dice_of(1);
     room_open(&stack, "stack", STACK, WRITABLE);

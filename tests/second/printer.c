@@ -72,7 +72,8 @@ static void counts(struct line *line, uint64_t expansions, uint64_t tests)
 }
 
 /* "net number, `path`, units, expansions, tests, then the vertices as x,y; or `none` with the two counts. A refused job prints only
-   `refused`, number, `at`, place. The words `net`, `expanded`, `tests` and `at` stand as below"; 23 prints its byte too. */
+   `refused`, number, `at`, place. The words `net`, `expanded`, `tests` and `at` stand as below"; 23 prints its byte too, and item 4's 26 and 27,
+   "also the place in the path", print that. */
 struct wexxolin_line second_line(uint64_t net, uint64_t number, uint64_t place, uint64_t second, uint64_t units,
                                  uint64_t expansions, uint64_t tests, size_t width, const wexxolin_vertex *path,
                                  size_t path_len, uint8_t *out, size_t out_len)
@@ -95,7 +96,7 @@ struct wexxolin_line second_line(uint64_t net, uint64_t number, uint64_t place, 
         number_field(&line, number);
         word(&line, "at");
         number_field(&line, place);
-        if (number == 23)
+        if (number == 23 || number == 26 || number == 27)
             number_field(&line, second);
     }
     add(&line, "\n", 1); /* "Each line ends with a newline." */

@@ -4,12 +4,10 @@ use mathlib.Core.Path.{_≡_, refl}
 use mathlib.Core.Logic.{⊎-elim}
 use mathlib.Core.Bool.{true, false, cond}
 use mathlib.Core.List.{List}
-use lib.Dec.{eqb}
 use lib.ListN.{length}
-use borrow.Author.Tests.{eq-eqb, ne-eqb}
 use Rattle.laws.proofs.Tests.{bool-cases}
 use Rattle.lines.specs.declared.Line.the-variants as line-of
-use Rattle.lines.specs.Lines.{refusalLine}
+use Rattle.lines.specs.Lines.{hasSecond, refusalLine}
 use Rattle.lines.specs.Answers.{bytesOf}
 use Rattle.lines.specs.Inner.{refusing, Refusing}
 use Rattle.lines.proofs.Longest.{Small, refused-short, refused-twice-short}
@@ -18,13 +16,12 @@ pub refusing-bytes : (number place second width : ℕ) (path : List ℕ)
     → bytesOf (refusing number place second) width path ≡ refusalLine number place second
 unfolding refusalLine
 refusing-bytes number place second width path =
-    ⊎-elim (λ (t : eqb number 23 ≡ true). rw t) (λ (t : eqb number 23 ≡ false). rw t) (bool-cases (eqb number 23))
+    ⊎-elim (λ (t : hasSecond number ≡ true). rw t) (λ (t : hasSecond number ≡ false). rw t) (bool-cases (hasSecond number))
 
 -- as the code makes it
 module _ {number place second : ℕ} (a : Small number) (b : Small place) (c : Small second) where
-  pub refusing-twice : number ≡ 23 → Refusing number place second (line-of.RefusedTwice number place second)
-  refusing-twice e =
-      record { line-is = rw (eq-eqb number 23 e); short = λ side width path. refused-twice-short a b c side }
+  pub refusing-twice : hasSecond number ≡ true → Refusing number place second (line-of.RefusedTwice number place second)
+  refusing-twice e = record { line-is = rw e; short = λ side width path. refused-twice-short a b c side }
 
-  pub refusing-once : (number ≡ 23 → ⊥) → Refusing number place second (line-of.Refused number place)
-  refusing-once e = record { line-is = rw (ne-eqb number 23 e); short = λ side width path. refused-short a b side }
+  pub refusing-once : hasSecond number ≡ false → Refusing number place second (line-of.Refused number place)
+  refusing-once e = record { line-is = rw e; short = λ side width path. refused-short a b side }

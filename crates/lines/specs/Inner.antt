@@ -3,12 +3,11 @@ use Prim.Native.Nat.{ℕ, _+_, _≤_}
 use mathlib.Core.Path.{_≡_}
 use mathlib.Core.Bool.{cond}
 use mathlib.Core.List.{List, [], _∷_, _++_}
-use lib.Dec.{eqb}
 use lib.ListN.{length, take, drop}
 use Rattle.board.specs.Board.{columnOf, rowOf}
 use Rattle.lines.specs.declared.Line.{Line}
 use Rattle.lines.specs.declared.Line.the-variants as line-of
-use Rattle.lines.specs.Lines.{decimal, atWord, spaced, vertexFields, longestLine}
+use Rattle.lines.specs.Lines.{decimal, atWord, spaced, vertexFields, hasSecond, longestLine}
 use Rattle.lines.specs.Answers.{bytesOf}
 
 -- some bytes were put at a place of a slice: what it holds afterwards, and the place after them
@@ -41,7 +40,7 @@ pathEnd width path = (32 ∷ atWord) ++ (spaced (vertexFields width path) ++ (10
 -- ---- the line of a refusal, as the line call takes it
 
 abbrev pub refusing : (number place second : ℕ) → Line
-refusing number place second = cond (eqb number 23) (line-of.RefusedTwice number place second) (line-of.Refused number place)
+refusing number place second = cond (hasSecond number) (line-of.RefusedTwice number place second) (line-of.Refused number place)
 
 -- that line, which is short
 pub record Refusing (number place second : ℕ) (r : Line) : Type 0 where

@@ -1,6 +1,6 @@
 -- The lines that the route program prints, as bytes: fields with one space between them, and a newline at the end.
 use Prim.Native.Nat.{ℕ, zero, suc, _+_, _*_, _/_, _%_, max}
-use mathlib.Core.Bool.{cond}
+use mathlib.Core.Bool.{Bool, _||_, cond}
 use mathlib.Core.List.{List, [], _∷_, _++_, map}
 use lib.Dec.{ltb, eqb}
 use lib.ListN.{length}
@@ -79,16 +79,20 @@ unfoldable pub noneLine : (number expansions tests : ℕ) → List ℕ
 noneLine number expansions tests =
     line net (decimal number ∷ none ∷ expanded ∷ decimal expansions ∷ testsWord ∷ decimal tests ∷ [])
 
--- a refused job, with one place or with two
+-- a refusal, with one place or with two
 unfoldable pub refusedLine : (number place : ℕ) → List ℕ
 refusedLine number place = line refused (decimal number ∷ atWord ∷ decimal place ∷ [])
 
 unfoldable pub refusedTwiceLine : (number place second : ℕ) → List ℕ
 refusedTwiceLine number place second = line refused (decimal number ∷ atWord ∷ decimal place ∷ decimal second ∷ [])
 
--- a refusal: its number and its place, and for 23, an unused byte, the byte too
+-- the refusals that name a second place: 23, an unused byte; 26, a vertex off the board, and 27, a wrong leg, both in a path
+unfoldable pub hasSecond : (number : ℕ) → Bool
+hasSecond number = eqb number 23 || (eqb number 26 || eqb number 27)
+
+-- a refusal: its number and its place, and its second place where it names one
 unfoldable pub refusalLine : (number place second : ℕ) → List ℕ
-refusalLine number place second = cond (eqb number 23) (refusedTwiceLine number place second) (refusedLine number place)
+refusalLine number place second = cond (hasSecond number) (refusedTwiceLine number place second) (refusedLine number place)
 
 -- ---- how long a line can be
 

@@ -33,7 +33,7 @@ pub fn byte_at(file: &[u8], i: usize, k: usize) -> u8
 }
 
 // The place that record i gives, low byte first.
-fn place_of(file: &[u8], i: usize) -> usize
+pub fn place_of(file: &[u8], i: usize) -> usize
     requires { ⌜ i < records (now file) ⌝ }
     ensures { λ r. ⌜ (r ≡ placeOf (now (file .entry)) i) × (r < 65536) ⌝ }
 {

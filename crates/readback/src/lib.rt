@@ -6,7 +6,7 @@ use gather::gather;
 use tracks::ReadAnswer;
 use tracks::RouteRefusal;
 
-mod check;
+pub mod check;
 mod gather;
 
 // What the records before say: the last net, the place that its next record must have, 0 if it can have none, and how many

@@ -10,11 +10,13 @@ use Rattle.packing.specs.declared.Packing.{Packing}
 use Rattle.printing.specs.declared.Printed.{Printed}
 use Rattle.told.specs.declared.Found.{Found}
 use Rattle.told.specs.declared.Sides.{Sides}
+use Rattle.bureau.specs.Answers as bureau
+use Rattle.approval.specs.declared.Approval.{Approval}
 use Rattle.tracks.specs.Layout as layout
 use Rattle.tracking.specs.declared.Routes.{Routes}
 use Rattle.tracking.specs.declared.Recorded.{Recorded}
 use Rattle.tracking.specs.declared.Turned.{Turned}
-use Rattle.wexxolin.specs.Calls.{RoutedForC, ReadForC, WroteForC, LineForC, RoutesReadForC, RoutesWrittenForC, PointsForC}
+use Rattle.wexxolin.specs.Calls.{RoutedForC, ReadForC, WroteForC, LineForC, RoutesReadForC, RoutesWrittenForC, PointsForC, CheckedForC}
 
 -- of `wexxolin_route_2`
 pub route-determined : {b : Board} {sx sy gx gy : ℕ} {before after₁ after₂ : Slices} {r s : Found}
@@ -47,6 +49,11 @@ records-determined R S = (R .told ∙ sym (S .told), R .after-is ∙ sym (S .aft
 pub points-determined : {path : List ℕ} {width : ℕ} {xs ys xs₁ ys₁ xs₂ ys₂ : List ℕ} {r s : Turned} → PointsForC path width xs ys r xs₁ ys₁
     → PointsForC path width xs ys s xs₂ ys₂ → (r ≡ s) × (xs₁ ≡ xs₂) × (ys₁ ≡ ys₂)
 points-determined R S = (R .told ∙ sym (S .told), R .xs-are ∙ sym (S .xs-are), R .ys-are ∙ sym (S .ys-are))
+
+-- of `wexxolin_check_1`
+pub check-determined : {job file : List ℕ} {before after₁ after₂ : bureau.Slices} {r s : Approval} → CheckedForC job file before r after₁
+    → CheckedForC job file before s after₂ → (r ≡ s) × (after₁ ≡ after₂)
+check-determined R S = (R .told ∙ sym (S .told), R .after-is ∙ sym (S .after-is))
 
 -- of `wexxolin_line_1`
 pub line-determined : {bytes before after₁ after₂ : List ℕ} {r s : Printed} → LineForC bytes before r after₁ → LineForC bytes before s after₂

@@ -16,6 +16,9 @@ use Rattle.printing.specs.declared.Printed.{Printed}
 use Rattle.printing.specs.Printing.{toldLine}
 use Rattle.packing.specs.declared.Packing.{Packing}
 use Rattle.packing.specs.Packing.{toldRows}
+use Rattle.bureau.specs.Answers as bureau
+use Rattle.approval.specs.declared.Approval.{Approval}
+use Rattle.approval.specs.Approval.{toldCheck}
 use Rattle.tracks.specs.Tracks.{routesIn}
 use Rattle.tracks.specs.Layout as layout
 use Rattle.tracks.specs.Answers as tracks
@@ -64,6 +67,11 @@ pub record PointsForC (path : List ℕ) (width : ℕ) (xs ys : List ℕ) (r : Tu
   pub told : r ≡ toldPoints (pointRows path width (length xs) (length ys))
   pub xs-are : xs′ ≡ sliceAfter (pointRows path width (length xs) (length ys)) (columns path width) xs
   pub ys-are : ys′ ≡ sliceAfter (pointRows path width (length xs) (length ys)) (rows path width) ys
+
+-- the bureau's routes checked for C: what it gets, and what the slices hold before and after
+pub record CheckedForC (job file : List ℕ) (before : bureau.Slices) (r : Approval) (after : bureau.Slices) : Type 0 where
+  pub told : r ≡ toldCheck (bureau.checkRow job file before)
+  pub after-is : after ≡ bureau.slicesAfter job file before
 
 -- a line for C: what it gets, and what the lent slice holds before and after
 pub record LineForC (bytes before : List ℕ) (r : Printed) (after : List ℕ) : Type 0 where

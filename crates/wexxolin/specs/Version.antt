@@ -5,11 +5,11 @@ abbrev pub major : ℕ
 major = 2
 
 abbrev pub minor : ℕ
-minor = 1
+minor = 2
 
 abbrev pub patch : ℕ
 patch = 0
 
--- 20100 is version 2.1.0
+-- 20200 is version 2.2.0
 abbrev pub version : ℕ
 version = major * 10000 + minor * 100 + patch

@@ -8,16 +8,27 @@ ghost use Rattle.job.specs.Answers.{netRow};
 ghost use Rattle.packed.specs.Answers.{countRow};
 ghost use Rattle.packing.specs.Packing.{toldCount};
 ghost use Rattle.tracks.specs.Layout as layout;
-ghost use Rattle.told.specs.Told.{toldSight, toldLength, toldDirection, toldNet};
+ghost use Rattle.bureau.specs.Answers as bureau;
+ghost use Rattle.measuring.specs.Measuring.{toldSight, toldLength, toldDirection};
+ghost use Rattle.told.specs.Told.{toldNet};
 ghost use Rattle.printing.specs.Printing.{printed};
 ghost use Rattle.wexxolin.specs.Version.{version};
-ghost use Rattle.wexxolin.specs.Calls.{RoutedForC, ReadForC, UnpackedForC, PackedForC, LineForC, RoutesReadForC, RoutesWrittenForC, PointsForC};
+ghost use Rattle.wexxolin.specs.Calls.{RoutedForC, ReadForC, UnpackedForC, PackedForC, LineForC, RoutesReadForC, RoutesWrittenForC, PointsForC, CheckedForC};
+use approval::Approval;
+use approval::inner::tell_check;
+use approve::approve;
 use board::Vertex;
 use corners::path_points;
 use job::read_board;
 use job::read_net;
 use length::Direction;
 use length::Length;
+use measuring::Long;
+use measuring::Seen;
+use measuring::Toward;
+use measuring::inner::tell_direction;
+use measuring::inner::tell_length;
+use measuring::inner::tell_sight;
 use packed::count_blocked;
 use packed::read_cells;
 use packed::write_packed;
@@ -33,17 +44,11 @@ use readback::read_routes;
 use router::route;
 use sight::sight;
 use told::Found;
-use told::Long;
 use told::Net;
-use told::Seen;
 use told::Sides;
-use told::Toward;
 use told::inner::tell_board;
-use told::inner::tell_direction;
-use told::inner::tell_length;
 use told::inner::tell_net;
 use told::inner::tell_route;
-use told::inner::tell_sight;
 use tracking::Recorded;
 use tracking::Routes;
 use tracking::Turned;
@@ -53,8 +58,8 @@ use tracking::inner::tell_routes;
 use writeback::write_routes;
 use writing::write_line;
 
-// The version of the library, 20100 for 2.1.0.
-const VERSION: u64 = 20100;
+// The version of the library, 20200 for 2.2.0.
+const VERSION: u64 = 20200;
 
 // Which version the library is.
 #[no_mangle]
@@ -237,7 +242,35 @@ pub extern "C" fn wexxolin_path_points_1(
     tell_points(path_points(path, width, xs, ys))
 }
 
-// The line of a net or of a refusal, by what a route or a job's read handed back.
+// The layout bureau's routes beside a job.
+#[no_mangle]
+pub extern "C" fn wexxolin_check_1(
+    job: &[u8],
+    routes: &[u8],
+    board: &mut [u8],
+    g: &mut [u64],
+    parents: &mut [Vertex],
+    marks: &mut [u8],
+    legs: &mut [Vertex],
+    units: &mut [u64],
+    leg_counts: &mut [u32],
+) -> Approval
+    ensures { λ r. ⌜ CheckedForC (now (job .entry)) (now (routes .entry)) (bureau.slices (now (board .entry)) (now (g .entry)) (now (parents .entry)) (now (marks .entry)) (now (legs .entry)) (now (units .entry)) (now («leg_counts» .entry))) r (bureau.slices (now (board .exit)) (now (g .exit)) (now (parents .exit)) (now (marks .exit)) (now (legs .exit)) (now (units .exit)) (now («leg_counts» .exit))) ⌝ }
+{
+    tell_check(approve(
+        job,
+        routes,
+        board,
+        g,
+        parents,
+        marks,
+        legs,
+        units,
+        leg_counts,
+    ))
+}
+
+// The line of a net or of a refusal, by what a call handed back.
 #[no_mangle]
 pub extern "C" fn wexxolin_line_1(
     net: u64,

@@ -4,7 +4,7 @@ use lib.IntN.{ℤ}
 use borrow.Author.Needs.{needs}
 use Rattle.length.specs.Answers.{directionRow}
 use Rattle.length.proofs.Signed.{narrowed}
-use Rattle.told.specs.Told.{toldDirection}
+use Rattle.measuring.specs.Measuring.{toldDirection}
 use Rattle.wexxolin.proofs.wexxolin_direction_1.Statement.{statement}
 use Rattle.wexxolin.proofs.wexxolin_direction_1.Tie as tie
 

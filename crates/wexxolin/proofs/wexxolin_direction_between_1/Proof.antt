@@ -1,7 +1,7 @@
 -- `wexxolin_direction_between_1` is the call by vertices for C.
 use mathlib.Core.Path.{ap, _∙_}
 use borrow.Author.Needs.{needs}
-use Rattle.told.specs.Told.{toldDirection}
+use Rattle.measuring.specs.Measuring.{toldDirection}
 use Rattle.wexxolin.proofs.wexxolin_direction_between_1.Statement.{statement}
 use Rattle.wexxolin.proofs.wexxolin_direction_between_1.Tie as tie
 

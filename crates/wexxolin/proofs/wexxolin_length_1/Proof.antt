@@ -5,7 +5,7 @@ use borrow.Author.Needs.{needs}
 use Rattle.length.specs.Answers.{lengthRow, handedLength}
 use Rattle.length.proofs.Signed.{narrowed}
 use Rattle.length.proofs.Answers.{length-exact}
-use Rattle.told.specs.Told.{toldLength}
+use Rattle.measuring.specs.Measuring.{toldLength}
 use Rattle.wexxolin.proofs.wexxolin_length_1.Statement.{statement}
 use Rattle.wexxolin.proofs.wexxolin_length_1.Tie as tie
 

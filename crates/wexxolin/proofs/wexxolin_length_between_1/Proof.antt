@@ -2,7 +2,7 @@
 use mathlib.Core.Path.{ap, _∙_}
 use borrow.Author.Needs.{needs}
 use Rattle.length.proofs.Answers.{length-between-exact}
-use Rattle.told.specs.Told.{toldLength}
+use Rattle.measuring.specs.Measuring.{toldLength}
 use Rattle.wexxolin.proofs.wexxolin_length_between_1.Statement.{statement}
 use Rattle.wexxolin.proofs.wexxolin_length_between_1.Tie as tie
 

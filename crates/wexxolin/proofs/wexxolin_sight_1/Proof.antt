@@ -1,6 +1,6 @@
 -- `wexxolin_sight_1` is the sight call for C.
 use mathlib.Core.Path.{ap, _∙_}
-use Rattle.told.specs.Told.{toldSight}
+use Rattle.measuring.specs.Measuring.{toldSight}
 use borrow.Author.Needs.{needs}
 use Rattle.wexxolin.proofs.wexxolin_sight_1.Statement.{statement}
 use Rattle.wexxolin.proofs.wexxolin_sight_1.Tie as tie

@@ -1,0 +1,4 @@
+pub mod Determined
+pub mod Answering
+pub mod Finding
+pub mod Worked

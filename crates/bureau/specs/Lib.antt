@@ -1,0 +1,4 @@
+pub mod Paths
+pub mod Nets
+pub mod Answers
+pub mod Inner

@@ -1,0 +1,5 @@
+pub mod Rightness
+pub mod Own
+mod Numbers
+pub mod Promised
+pub mod Written
