@@ -8,7 +8,7 @@ use lib.ListN.{length, getD}
 use Rattle.board.specs.Board.{Board, columnOf, rowOf}
 use Rattle.board.specs.Handed.{Handed}
 use Rattle.faults.specs.Inner.{Accepted}
-use Rattle.packed.proofs.Entries.{entries-all}
+use Rattle.bits.proofs.Entries.{entries-all}
 use Rattle.corners.specs.Corners.{columns, rows}
 use Rattle.tracks.specs.Tracks.{Point}
 use Rattle.tracks.specs.Layout.{each, laidOut}

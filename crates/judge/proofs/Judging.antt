@@ -28,8 +28,8 @@ use Rattle.faults.proofs.Accepted.{start-on, goal-on}
 use Rattle.job.specs.declared.NetAnswer.{NetAnswer}
 use Rattle.job.specs.Answers.{noNet, handedNet}
 use Rattle.job.specs.Answers.{netRow as netHanded}
-use Rattle.packed.specs.Packed.{entries}
-use Rattle.packed.proofs.Entries.{entries-length, written-next}
+use Rattle.bits.specs.Packed.{entries}
+use Rattle.bits.proofs.Entries.{entries-length, written-next}
 use Rattle.tracks.specs.Tracks.{Point, Route, routesIn}
 use Rattle.tracks.specs.Answers.{laid}
 use Rattle.bureau.specs.declared.Wanted.{Wanted}

@@ -3,6 +3,7 @@
 use Rattle.board.specs.Handed.{Handed}
 use Rattle.length.specs.Floats.{inCells}
 use Rattle.length.specs.Answers as length-calls
+use Rattle.direction.specs.Answers as direction-calls
 use Rattle.sight.specs.Answers as sight-call
 use Rattle.measuring.specs.declared.Seen.{Seen}
 use Rattle.measuring.specs.declared.Long.{Long}
@@ -26,5 +27,5 @@ toldSight h =
 abbrev pub toldLength : Handed length-calls.Long → Long
 toldLength h = record { number = h .number; place = h .place; second = h .second; units = h .values .units; cells = inCells (h .values .units) }
 
-abbrev pub toldDirection : Handed length-calls.Toward → Toward
+abbrev pub toldDirection : Handed direction-calls.Toward → Toward
 toldDirection h = record { number = h .number; place = h .place; second = h .second; x = h .values .x; y = h .values .y }

@@ -2,13 +2,14 @@
 ghost use mathlib.Core.Path.{_≡_};
 ghost use Prim.Native.Nat.{_^_, _<_};
 ghost use Rattle.board.specs.Handed.{answer, refused, judged};
-ghost use Rattle.length.specs.Answers.{noLength, noDirection, handedLength, handedDirection};
+ghost use Rattle.direction.specs.Answers.{noDirection, handedDirection};
+ghost use Rattle.length.specs.Answers.{noLength, handedLength};
 ghost use Rattle.sight.specs.Answers.{seenAs, unseen, handedSight};
 ghost use Rattle.measuring.specs.Measuring.{toldSight, toldLength, toldDirection};
 use crate::Long;
 use crate::Seen;
 use crate::Toward;
-use length::Aimed;
+use direction::Aimed;
 use length::Measured;
 use length::inner::exact_cells;
 use sight::Answer;

@@ -5,7 +5,7 @@ use Prim.Native.Nat.{ℕ, _+_, _*_, _^_, _≤_, _<_}
 use lib.ListN.{length, set}
 use Rattle.board.specs.Limits.{largestSide}
 use Rattle.board.specs.Board.{numberOf, columnOf, rowOf}
-use Rattle.length.specs.Legs.{step}
+use Rattle.spans.specs.Legs.{step}
 use Rattle.length.specs.Units.{units}
 use Rattle.reach.specs.Turns.{at}
 use Rattle.theta.specs.Order.{Contest, contest}

@@ -17,7 +17,7 @@ use Rattle.board.specs.declared.Refusal.the-variants.{Side, Count, Byte, First,
 use Rattle.legs.specs.Sight.{sees}
 use Rattle.legs.specs.Pinched.{pinched}
 use Rattle.legs.specs.Inner.{EndsOn}
-use Rattle.length.specs.Legs.{step, vertexRows}
+use Rattle.spans.specs.Legs.{step, vertexRows}
 use Rattle.length.specs.Units.{units}
 use Rattle.length.specs.Answers.{Long, noLength, lengthBetweenRow}
 use Rattle.problem.proofs.Sizes.{leg-longest}

@@ -5,7 +5,7 @@ ghost use Rattle.board.specs.Board.{board};
 ghost use Rattle.board.specs.Limits.{largestSide};
 ghost use Rattle.board.specs.Inner.{Sound};
 ghost use Rattle.legs.specs.Inner.{EndsOn};
-ghost use Rattle.length.specs.Legs.{step};
+ghost use Rattle.spans.specs.Legs.{step};
 ghost use Rattle.length.specs.Units.{units};
 ghost use Rattle.records.specs.Records.{records};
 ghost use Rattle.tracks.specs.Tracks.{pointOf};

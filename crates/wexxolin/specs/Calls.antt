@@ -9,7 +9,7 @@ use Rattle.problem.specs.Problem.{problem}
 use Rattle.router.specs.Answers.{Slices, routeRow, slicesAfter}
 use Rattle.job.specs.Answers.{boardRow, boardAfter}
 use Rattle.corners.specs.Corners.{columns, rows, pointRows}
-use Rattle.packed.specs.Packed.{cellsOf, packedOf}
+use Rattle.bits.specs.Packed.{cellsOf, packedOf}
 use Rattle.packed.specs.Answers.{sliceAfter, readRows, writeRows}
 use Rattle.lines.specs.Answers.{lineRow, lineAfter}
 use Rattle.printing.specs.declared.Printed.{Printed}

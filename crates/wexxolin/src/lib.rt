@@ -1,7 +1,8 @@
 // The calls for C, as include/wexxolin.h declares them.
 ghost use mathlib.Core.Path.{_≡_};
 ghost use Rattle.board.specs.Board.{board};
-ghost use Rattle.length.specs.Answers.{lengthRow, lengthBetweenRow, directionRow, directionBetweenRow};
+ghost use Rattle.direction.specs.Answers.{directionRow, directionBetweenRow};
+ghost use Rattle.length.specs.Answers.{lengthRow, lengthBetweenRow};
 ghost use Rattle.sight.specs.Answers.{sightRow};
 ghost use Rattle.router.specs.Answers.{slices};
 ghost use Rattle.job.specs.Answers.{netRow};
@@ -19,9 +20,9 @@ use approval::inner::tell_check;
 use approve::approve;
 use board::Vertex;
 use corners::path_points;
+use direction::Direction;
 use job::read_board;
 use job::read_net;
-use length::Direction;
 use length::Length;
 use measuring::Long;
 use measuring::Seen;

@@ -2,8 +2,8 @@
 use mathlib.Core.Path.{ap, _∙_}
 use lib.IntN.{ℤ}
 use borrow.Author.Needs.{needs}
-use Rattle.length.specs.Answers.{directionRow}
-use Rattle.length.proofs.Signed.{narrowed}
+use Rattle.direction.specs.Answers.{directionRow}
+use Rattle.spans.proofs.Signed.{narrowed}
 use Rattle.measuring.specs.Measuring.{toldDirection}
 use Rattle.wexxolin.proofs.wexxolin_direction_1.Statement.{statement}
 use Rattle.wexxolin.proofs.wexxolin_direction_1.Tie as tie

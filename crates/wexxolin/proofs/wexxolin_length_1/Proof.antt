@@ -3,7 +3,7 @@ use mathlib.Core.Path.{_≡_, ap, _∙_}
 use lib.IntN.{ℤ}
 use borrow.Author.Needs.{needs}
 use Rattle.length.specs.Answers.{lengthRow, handedLength}
-use Rattle.length.proofs.Signed.{narrowed}
+use Rattle.spans.proofs.Signed.{narrowed}
 use Rattle.length.proofs.Answers.{length-exact}
 use Rattle.measuring.specs.Measuring.{toldLength}
 use Rattle.wexxolin.proofs.wexxolin_length_1.Statement.{statement}

@@ -9,8 +9,8 @@ use Rattle.board.specs.Board.{board}
 use Rattle.board.specs.Inner.{Sound}
 use Rattle.board.specs.Handed.{passes}
 use Rattle.kinds.specs.Job.{Net}
-use Rattle.packed.specs.Packed.{entries}
-use Rattle.packed.proofs.Entries.{entries-none, kept-length}
+use Rattle.bits.specs.Packed.{entries}
+use Rattle.bits.proofs.Entries.{entries-none, kept-length}
 use Rattle.tracks.specs.Tracks.{routesIn}
 use Rattle.bureau.specs.Nets.{netsRows, netUnits, netLegs}
 use Rattle.bureau.specs.Inner.{OnJob}

@@ -1,7 +1,7 @@
 -- `measuring::inner::tell_direction` hands each answer on as its row says.
 use mathlib.Core.Path.{refl}
 use borrow.Author.Needs.{needs}
-use Rattle.length.specs.Answers.{noDirection, handedDirection}
+use Rattle.direction.specs.Answers.{noDirection, handedDirection}
 use Rattle.measuring.specs.Measuring.{toldDirection}
 use Rattle.board.proofs.Telling.{told-as, told-refused, refusal-is}
 use Rattle.measuring.proofs.inner.tell_direction.Statement.{statement}
