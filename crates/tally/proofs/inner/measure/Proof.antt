@@ -39,6 +39,12 @@ there c = omega (arith, c .before .loop .inv .1)
 returns : tie.Need-returns Inv-loop μ-loop
 returns c = let into = c .before .before .before in λ xs ys. low-refused (into .before .loop .inv .5 xs ys) (there into) (omega (arith, c .if1 .taken))
 
+-- its number is above the one before
+rises : (c : tie.Else1 Inv-loop μ-loop) →
+    let at = c .before .before .before .before in
+    at .loop .last < getD (at .before .before .before .args .nets .now) (at .loop .k) 0
+rises c = c .if1 .left
+
 add-t13 : tie.Need-add-t13 Inv-loop μ-loop
 add-t13 c = let l = c .before .before .before .before .before .loop in omega (arith, l .inv .2, l .inv .4)
 
@@ -47,7 +53,7 @@ returns-2 c =
     let high = c .before in
     let counted = high .before in
     let into = counted .before .before in
-    λ xs ys. long-refused (into .before .loop .inv .5 xs ys) (there into) (omega (arith, high .if1 .left)) (omega (arith, c .if2 .taken, counted .count-of .ensures))
+    λ xs ys. long-refused (into .before .loop .inv .5 xs ys) (there into) (rises high) (omega (arith, c .if2 .taken, counted .count-of .ensures))
 
 records-for-requires : tie.Need-records-for-requires Inv-loop μ-loop
 records-for-requires c κs = search needs
@@ -87,7 +93,7 @@ loop-again c =
       omega (arith, few c, l .inv .2, high .if1 .left),
       omega (arith, fits .if2 .left, l .inv .3, high .if1 .left),
       omega (arith, read .shared-slice-known3 .given (l .k)),
-      λ xs ys. judged-more (l .inv .5 xs ys) (there into) (high .if1 .left) (omega (arith, fits .if2 .left, counted .count-of .ensures)) at-is points-is,
+      λ xs ys. judged-more (l .inv .5 xs ys) (there into) (rises high) (omega (arith, fits .if2 .left, counted .count-of .ensures)) at-is points-is,
     )
 
 returns-3 : tie.Need-returns-3 Inv-loop μ-loop
