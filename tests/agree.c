@@ -197,18 +197,10 @@ static void open_rooms(void)
     rooms_watch(tell_fault);
 }
 
-/* An empty slice may come as any pointer: none of its entries has to be there. */
-static void *lend(struct room *room, size_t bytes, enum flush flush)
-{
-    static const uintptr_t wild[] = {0, 1, 8, (uintptr_t)1 << 63, UINTPTR_MAX};
-    void *slice = room_lend(room, bytes, flush);
-    return bytes == 0 && chance(50) ? (void *)wild[below(sizeof wild / sizeof *wild)] : slice;
-}
-
 /* Bytes that the library may only read. */
 static const uint8_t *lend_bytes(struct room *room, const uint8_t *bytes, size_t length, enum flush flush)
 {
-    const uint8_t *slice = lend(room, length, flush);
+    const uint8_t *slice = room_lend_any(room, length, flush, &dice);
     memcpy(room->ours + room->at, bytes, length);
     return slice;
 }
@@ -216,7 +208,7 @@ static const uint8_t *lend_bytes(struct room *room, const uint8_t *bytes, size_t
 /* Entries to be written. Those watched on the flush side have no place in the room: touching them is a fault. */
 static void *lend_entries(struct room *room, const void *old, size_t size, size_t length, enum flush flush)
 {
-    void *slice = lend(room, length * size, flush);
+    void *slice = room_lend_any(room, length * size, flush, &dice);
     size_t before = flush == AT_END ? PAD * size : 0;
     memcpy(room->ours + room->at - before, (const uint8_t *)old + PAD * size - before, (PAD + length) * size);
     return slice;

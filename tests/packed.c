@@ -134,14 +134,6 @@ static void open_rooms(void)
     rooms_watch(tell_fault);
 }
 
-/* An empty slice may come as any pointer: none of its bytes has to be there. */
-static void *lend(struct room *room, size_t length, enum flush flush)
-{
-    static const uintptr_t wild[] = {0, 1, 8, (uintptr_t)1 << 63, UINTPTR_MAX};
-    void *slice = room_lend(room, length, flush);
-    return length == 0 && chance(50) ? (void *)wild[below(sizeof wild / sizeof *wild)] : slice;
-}
-
 static uint8_t before[ROOM], theirs[ROOM], ours[ROOM];
 
 /* The slice as the call left it, with the watched bytes; those on the flush side have no place in the room. */
@@ -149,9 +141,9 @@ static struct answer call_library(const struct request *r, enum flush flush)
 {
     size_t ahead = flush == AT_END ? PAD : 0;
     in_hand = r;
-    const uint8_t *bytes = lend(&read_room, r->length, flush);
+    const uint8_t *bytes = room_lend_any(&read_room, r->length, flush, &dice);
     memcpy(read_room.ours + read_room.at, r->bytes, r->length);
-    uint8_t *out = lend(&write_room, r->lent, flush);
+    uint8_t *out = room_lend_any(&write_room, r->lent, flush, &dice);
     memcpy(write_room.ours + write_room.at - ahead, before + PAD - ahead, PAD + r->lent);
     struct answer answer = ask_library(r, bytes, out);
     memcpy(theirs, before, PAD + r->lent + PAD);

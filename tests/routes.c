@@ -138,14 +138,6 @@ static void open_rooms(void)
 
 static size_t bytes_of(const struct request *r, size_t k) { return r->length[k] * shapes[r->call].size[k]; }
 
-/* An empty slice may come as any pointer: none of its entries has to be there. */
-static void *lend(struct room *room, size_t bytes, enum flush flush)
-{
-    static const uintptr_t wild[] = {0, 1, 8, (uintptr_t)1 << 63, UINTPTR_MAX};
-    void *slice = room_lend(room, bytes, flush);
-    return bytes == 0 && chance(50) ? (void *)wild[below(sizeof wild / sizeof *wild)] : slice;
-}
-
 static struct answer call_library(const struct request *r, enum flush flush)
 {
     void *lent[SLICES];
@@ -153,7 +145,7 @@ static struct answer call_library(const struct request *r, enum flush flush)
     in_hand = r;
     for (size_t k = 0; k < slices; k++) {
         struct room *room = shapes[r->call].written[k] ? &rooms[k] : &read_rooms[k];
-        lent[k] = lend(room, bytes_of(r, k), flush);
+        lent[k] = room_lend_any(room, bytes_of(r, k), flush, &dice);
         memcpy(room->ours + room->at, before[k], bytes_of(r, k));
     }
     struct answer answer = ask(r, 1, lent);

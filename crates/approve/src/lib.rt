@@ -6,8 +6,8 @@ use bureau::CheckAnswer;
 use faults::inner::check_job;
 use job::read_board;
 use judge::inner::check_nets;
-use readback::Step as FileStep;
 use readback::check::check_routes;
+use scan::Step as FileStep;
 use steps::Progress;
 use steps::Step;
 

@@ -20,10 +20,12 @@ use Rattle.tracks.specs.Answers.{handedRead, isShort, readRows, readRow, slices
 use Rattle.tracks.proofs.Laying.{counts-length, all-length}
 use Rattle.tracks.proofs.Sizes.{nets-counted, points-counted}
 use Rattle.tracks.proofs.Theorems.{all-records}
-use Rattle.readback.specs.declared.Progress.{Progress}
-use Rattle.readback.specs.declared.Step.{Step}
-use Rattle.readback.specs.declared.Step.the-variants as step
-use Rattle.readback.specs.Inner.{progress, Checked, Room, Gathered}
+use Rattle.scan.specs.declared.Progress.{Progress}
+use Rattle.scan.specs.declared.Step.{Step}
+use Rattle.scan.specs.declared.Step.the-variants as step
+use Rattle.scan.specs.Inner.{progress}
+use Rattle.gather.specs.Inner.{Room, Gathered}
+use Rattle.readback.specs.Inner.{Checked}
 
 -- ---- the file is refused
 

@@ -10,7 +10,7 @@ ghost use Rattle.tracks.specs.Faults.{fileRows};
 ghost use Rattle.bureau.specs.Nets.{inJob, inRoutes, oddNet};
 ghost use Rattle.bureau.specs.Inner.{firstRecord, LastOf, Run};
 use kinds::NET;
-use readback::check::place_of;
+use places::inner::place_of;
 use records::RECORD;
 use records::inner::byte_of;
 use tracks::POINT;

@@ -14,9 +14,10 @@ use Rattle.tracks.specs.declared.WriteAnswer.the-variants.{Written, Order, Shor
 use Rattle.tracks.specs.Faults.{fileRows}
 use Rattle.tracks.specs.Layout.{Slices, slices, pointsBefore}
 use Rattle.tracks.specs.Answers.{laid, handedWrite, fileFor, isLacking, writeRows, writeRow, fileAfter, RoutesWritten}
-use Rattle.writeback.specs.declared.Measured.{Measured}
-use Rattle.writeback.specs.declared.Measured.the-variants.{Fits, Wrong}
-use Rattle.writeback.specs.Inner.{Right, MeasuredAs, Fitting}
+use Rattle.tally.specs.declared.Measured.{Measured}
+use Rattle.tally.specs.declared.Measured.the-variants.{Fits, Wrong}
+use Rattle.tally.specs.Inner.{Right, MeasuredAs}
+use Rattle.laying.specs.Inner.{Fitting}
 
 -- ---- it is wrong at a record
 
