@@ -16,7 +16,10 @@ use Rattle.board.specs.declared.Refusal.{Refusal}
 use Rattle.board.specs.declared.Refusal.the-variants.{Side, Count, Byte, First, Second}
 use Rattle.legs.specs.Sight.{sees}
 use Rattle.legs.specs.Pinched.{pinched}
+use Rattle.legs.specs.declared.Stop.{Stop}
+use Rattle.legs.specs.Stops.{isClear, firstStop}
 use Rattle.legs.specs.Inner.{EndsOn}
+use Rattle.legs.proofs.Nearest.{sees-clear}
 use Rattle.length.specs.Legs.{step, vertexRows}
 use Rattle.length.specs.Units.{units}
 use Rattle.length.specs.Answers.{Long, noLength, lengthBetweenRow}
@@ -50,6 +53,11 @@ pub leg-told : (b : Board) (isLast : Bool) {ax ay bx by cx cy dx dy : ℕ} {r t 
     → r ≡ isLegWrong b (point ax ay) (point bx by) isLast → r ≡ t → isLegWrong b (point cx cy) (point dx dy) isLast ≡ t
 leg-told b isLast e f g h i j =
     sym (ap₂ (λ (p q : Point). isLegWrong b p q isLast) (ap₂ point e f) (ap₂ point g h)) ∙ sym i ∙ j
+
+-- a leg that nothing stops has sight
+pub clear-told : {b : Board} {ax ay bx by : ℕ} {stop : Stop} {r : Bool} → EndsOn b ax ay bx by → stop ≡ firstStop b ax ay bx by → r ≡ isClear stop
+    → r ≡ sees b ax ay bx by
+clear-told {b} {ax} {ay} {bx} {by} on e f = f ∙ ap isClear e ∙ sym (sees-clear b ax ay bx by on)
 
 -- a leg's three tests, as far as they are made
 module _ (b : Board) (p q : Point) (isLast : Bool) where

@@ -5,6 +5,7 @@ ghost use Rattle.board.specs.Board.{board};
 ghost use Rattle.board.specs.Limits.{largestSide};
 ghost use Rattle.board.specs.Inner.{Sound};
 ghost use Rattle.legs.specs.Inner.{EndsOn};
+ghost use Rattle.legs.specs.Stops.{isClear};
 ghost use Rattle.length.specs.Legs.{step};
 ghost use Rattle.length.specs.Units.{units};
 ghost use Rattle.records.specs.Records.{records};
@@ -14,10 +15,11 @@ ghost use Rattle.bureau.specs.Inner.{netFor, recordPoints, PointsOn, faultRow};
 use board::inner::is_vertex;
 use bureau::Fault;
 use bureau::Wanted;
+use legs::Stop;
 use length::Length;
 use length::Measured;
 use records::inner::byte_of;
-use walks::inner::sees;
+use walks::inner::first_stop;
 use walls::pinch::is_pinched;
 
 // The bytes of a record that hold the point's x and y.
@@ -73,6 +75,18 @@ fn first_off(
     n
 }
 
+// Whether nothing stops a leg.
+fn is_clear(stop: Stop) -> bool
+    ensures { λ r. ⌜ r ≡ isClear stop ⌝ }
+{
+    match stop {
+        Stop::Clear => true,
+        Stop::Cell(_, _) => false,
+        Stop::Edge(_, _, _, _) => false,
+        Stop::Vertex(_, _) => false,
+    }
+}
+
 // 27: whether the leg has no length or no sight, or ends in a pinched vertex that is not the path's last.
 fn is_leg_wrong(
     cells: &[u8],
@@ -91,7 +105,7 @@ fn is_leg_wrong(
     if (ax == bx) & (ay == by) {
         return true;
     }
-    if !sees(cells, width, height, ax, ay, bx, by) {
+    if !is_clear(first_stop(cells, width, height, ax, ay, bx, by)) {
         return true;
     }
     is_pinched(cells, width, height, bx, by) & !last
