@@ -1,4 +1,4 @@
--- What src/cells.rt writes. No public contract cites it, so nobody need believe this.
+-- What src/inner.rt writes. No public contract cites it, so nobody need believe this.
 use Prim.Native.Nat.{ℕ, _+_, _*_, _<_}
 use mathlib.Core.Path.{_≡_}
 use mathlib.Core.Bool.{Bool, _&&_, cond}

@@ -1,4 +1,4 @@
--- `job::inner::find_net` finds the net with an index. The loop's invariant: as many nets as were counted lie before.
+-- `netlist::inner::find_net` finds the net with an index. The loop's invariant: as many nets as were counted lie before.
 use mathlib.Core.Path.{_≡_, refl, sym, _∙_}
 use Prim.Native.Nat.{_-_, _≤_}
 use native.Mathlib.Omega.{arith}
@@ -8,9 +8,9 @@ use Rattle.laws.specs.Below.{howMany}
 use Rattle.laws.proofs.Below.{many-pass, many-fail}
 use Rattle.records.specs.Records.{records, byte}
 use Rattle.kinds.specs.Job.{isNet}
-use Rattle.job.proofs.inner.Nets.{found-here, found-none}
-use Rattle.job.proofs.inner.find_net.Statement.{statement}
-use Rattle.job.proofs.inner.find_net.Tie as tie
+use Rattle.netlist.proofs.Nets.{found-here, found-none}
+use Rattle.netlist.proofs.inner.find_net.Statement.{statement}
+use Rattle.netlist.proofs.inner.find_net.Tie as tie
 
 abbrev Inv-loop : tie.InvT-loop
 Inv-loop job index before₀ i₀ i-end before i = (i ≤ i-end) × (i-end ≡ records job) × (before ≡ howMany i (isNet job)) × (before ≤ index)

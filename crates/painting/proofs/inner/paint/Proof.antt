@@ -1,14 +1,14 @@
--- `job::cells::paint` blocks a rectangle row by row. The loop's invariant: the rows above are painted.
+-- `painting::inner::paint` blocks a rectangle row by row. The loop's invariant: the rows above are painted.
 use mathlib.Core.Path.{_≡_}
 use Prim.Native.Nat.{_+_, _*_, _-_, _≤_}
 use native.Mathlib.Nat.{mul-le-mul-right}
 use native.Mathlib.Omega.{arith}
 use lib.ListN.{length}
 use Rattle.kinds.specs.Job.{inside}
-use Rattle.job.specs.Cells.{Painted}
-use Rattle.job.proofs.cells.Painting.{lines-none, lines-more}
-use Rattle.job.proofs.cells.paint.Statement.{statement}
-use Rattle.job.proofs.cells.paint.Tie as tie
+use Rattle.painting.specs.Cells.{Painted}
+use Rattle.painting.proofs.Painting.{lines-none, lines-more}
+use Rattle.painting.proofs.inner.paint.Statement.{statement}
+use Rattle.painting.proofs.inner.paint.Tie as tie
 
 abbrev Inv-loop : tie.InvT-loop
 Inv-loop board₀ width left top right bottom y₀ board y = (top ≤ y) × (y ≤ bottom) × Painted width (inside left top right y) board₀ board

@@ -1,4 +1,4 @@
--- `job::cells::paint_keepouts` blocks every keepout. The loop's invariant: those of the records before are painted.
+-- `painting::inner::paint_keepouts` blocks every keepout. The loop's invariant: those of the records before are painted.
 use mathlib.Core.Path.{_≡_, refl, sym, _∙_}
 use Prim.Native.Nat.{_-_, _≤_}
 use native.Mathlib.Nat.{mul-le-mul-right}
@@ -6,12 +6,12 @@ use native.Mathlib.Omega.{arith}
 use borrow.Author.Needs.{needs}
 use Rattle.records.specs.Records.{records}
 use Rattle.kinds.specs.Job.{inKeepout}
-use Rattle.job.specs.Cells.{Painted}
+use Rattle.painting.specs.Cells.{Painted}
 use Rattle.kinds.proofs.Says.{said}
 use Rattle.faults.proofs.Accepted.{no-keepout, keepout-on}
-use Rattle.job.proofs.cells.Painting.{coveredBy, keepouts-none, keepouts-skip, keepouts-more}
-use Rattle.job.proofs.cells.paint_keepouts.Statement.{statement}
-use Rattle.job.proofs.cells.paint_keepouts.Tie as tie
+use Rattle.painting.proofs.Painting.{coveredBy, keepouts-none, keepouts-skip, keepouts-more}
+use Rattle.painting.proofs.inner.paint_keepouts.Statement.{statement}
+use Rattle.painting.proofs.inner.paint_keepouts.Tie as tie
 
 abbrev Inv-loop : tie.InvT-loop
 Inv-loop job wide board₀ i₀ i-end board i = (i ≤ i-end) × (i-end ≡ records job) × Painted wide (coveredBy job wide i) board₀ board

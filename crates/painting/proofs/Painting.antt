@@ -15,7 +15,7 @@ use Rattle.laws.proofs.Tests.{order, bool-cases, and-both, and-false, or-false}
 use Rattle.laws.specs.Below.{some}
 use Rattle.kinds.specs.declared.Record.the-variants.{Keepout}
 use Rattle.kinds.specs.Job.{isKeepout, left, top, right, bottom, inside, covers}
-use Rattle.job.specs.Cells.{Filled, Painted}
+use Rattle.painting.specs.Cells.{Filled, Painted}
 use Rattle.kinds.proofs.Says.{Says, keepout}
 
 abbrev between : (a x b : ℕ) → Bool

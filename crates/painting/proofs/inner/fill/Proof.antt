@@ -1,11 +1,11 @@
--- `job::cells::fill` gives the entries their value and keeps the others.
+-- `painting::inner::fill` gives the entries their value and keeps the others.
 use mathlib.Core.Path.{_≡_}
 use Prim.Native.Nat.{_-_, _≤_}
 use native.Mathlib.Omega.{arith}
-use Rattle.job.specs.Cells.{Filled}
-use Rattle.job.proofs.cells.Painting.{fill-none, fill-more}
-use Rattle.job.proofs.cells.fill.Statement.{statement}
-use Rattle.job.proofs.cells.fill.Tie as tie
+use Rattle.painting.specs.Cells.{Filled}
+use Rattle.painting.proofs.Painting.{fill-none, fill-more}
+use Rattle.painting.proofs.inner.fill.Statement.{statement}
+use Rattle.painting.proofs.inner.fill.Tie as tie
 
 abbrev Inv-loop : tie.InvT-loop
 Inv-loop board₀ from to value at₀ board at = (from ≤ at) × (at ≤ to) × Filled from at value board₀ board

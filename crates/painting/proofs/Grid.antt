@@ -9,22 +9,17 @@ use native.Mathlib.Omega.{arith}
 use lib.Dec.{leb, ltb}
 use lib.ListN.{length, getD, drop, length-append, length-drop, List·getD-append}
 use lib.Seq.{ext-getD, getD-drop, getD-append-add, getD-at}
-use borrow.Author.Tests.{lt-ltb, le-ltb, le-leb, ne-eqb}
+use borrow.Author.Tests.{lt-ltb, le-ltb, le-leb}
 use Rattle.laws.proofs.Tests.{order, bool-cases, and-false}
 use Rattle.laws.proofs.Below.{some-none}
-use Rattle.board.specs.Limits.{largestSide}
 use Rattle.board.specs.Handed.{firstBad}
 use Rattle.board.proofs.Bytes.{all-bits}
-use Rattle.board.proofs.Rows.{side-least, cells-few}
+use Rattle.board.proofs.Rows.{side-least}
 use Rattle.records.specs.Records.{records}
-use Rattle.job.specs.declared.BoardAnswer.the-variants.{Board, Short}
-use Rattle.steps.specs.declared.Progress.{Progress}
-use Rattle.kinds.specs.Job.{isKeepout, width, height, left, top, right, bottom, covers, inKeepout, cellsUpTo, boardCells, nets}
-use Rattle.job.specs.Answers.{handedBoard, BoardRead}
-use Rattle.faults.specs.Inner.{Accepted, progress}
-use Rattle.job.specs.Cells.{Filled, Painted}
-use Rattle.faults.proofs.Accepted.{some-record, width-fits, height-fits, keepout-below}
-use Rattle.job.proofs.Reading.{board-short, board-done}
+use Rattle.kinds.specs.Job.{isKeepout, width, height, left, top, right, bottom, covers, inKeepout, cellsUpTo, boardCells}
+use Rattle.faults.specs.Inner.{Accepted}
+use Rattle.painting.specs.Cells.{Filled, Painted}
+use Rattle.faults.proofs.Accepted.{width-fits, keepout-below}
 
 -- ---- the list of cells
 
@@ -115,33 +110,11 @@ module _ {job : List ℕ} (a : Accepted job) where
     cells-drawn =
         ext-getD 0 after wanted same-length (λ (k : ℕ) (l : k < length after). ⊎-elim (on k) (beyond k) (order k (width job * height job)))
 
--- ---- the board read, from what the whole job says
+-- the same where the width and the number of cells are known by other names
+module _ {job : List ℕ} (a : Accepted job) {w n : ℕ} (wide-is : w ≡ width job) (cells-are : n ≡ width job * height job) where
+  pub cells-room : {m : ℕ} → n ≤ m → w * height job ≤ m
+  cells-room l = rw wide-is (rw cells-are at l)
 
-module _ {job : List ℕ} (a : Accepted job) {p : Progress} (known : p ≡ progress job (records job)) where
-  whole-reads : (p .width ≡ width job) × (p .height ≡ height job) × (p .nets ≡ nets job)
-  unfolding progress
-  whole-reads =
-      let some = ne-eqb (records job) 0 (λ z. omega (arith, some-record a)) in
-      (rw (known, some), rw (known, some), rw known)
-
-  pub whole-width : p .width ≡ width job
-  whole-width = whole-reads .0
-
-  whole-height : p .height ≡ height job
-  whole-height = whole-reads .1
-
-  pub whole-few : p .width * p .height ≤ largestSide * largestSide
-  whole-few = rw (whole-width, whole-height) (cells-few (width job) (height job) (width-fits a) (height-fits a))
-
-  pub whole-room : (n : ℕ) → p .width * p .height ≤ n → p .width * height job ≤ n
-  whole-room n l = rw whole-height at l
-
-  pub whole-short : (before : List ℕ) → length before < p .width * p .height → BoardRead job before (handedBoard Short) before
-  whole-short before l = board-short job before a (rw (whole-width, whole-height) at l)
-
-  pub whole-done : {before mid after : List ℕ} → p .width * p .height ≤ length before → Filled 0 (p .width * p .height) 0 before mid
-      → Painted (p .width) (inKeepout job) mid after → BoardRead job before (handedBoard (Board (p .width) (p .height) (p .nets))) after
-  whole-done {before} l f q =
-      let room : width job * height job ≤ length before = rw (whole-width, whole-height) at l in
-      rw (cells-drawn a room (rw (whole-width, whole-height) at f) (rw whole-width at q), whole-width, whole-height, whole-reads .2)
-      (board-done job before a room)
+  pub cells-written : {before mid after : List ℕ} → n ≤ length before → Filled 0 n 0 before mid → Painted w (inKeepout job) mid after
+      → after ≡ boardCells job ++ drop n before
+  cells-written l f p = rw cells-are (cells-drawn a (rw cells-are at l) (rw cells-are at f) (rw wide-is at p))

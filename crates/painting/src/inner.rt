@@ -1,19 +1,22 @@
-// The cells of a board: free, and blocked where a keepout is.
+// Calls for the crates above, whose job has been accepted: each says what it requires.
 ghost use mathlib.Core.Path.{_≡_};
 ghost use Prim.Native.Nat.{_*_, _≤_, _<_};
-ghost use lib.ListN.{length};
-ghost use Rattle.kinds.specs.Job.{width, height, inside, inKeepout};
+ghost use mathlib.Core.List.{_++_};
+ghost use lib.ListN.{length, drop};
+ghost use Rattle.kinds.specs.Job.{width, height, inside, inKeepout, boardCells};
 ghost use Rattle.faults.specs.Inner.{Accepted};
-ghost use Rattle.job.specs.Cells.{Filled, Painted};
+ghost use Rattle.painting.specs.Cells.{Filled, Painted};
 use kinds::Record;
 use kinds::inner::record_at;
 use records::RECORD;
 
-// What a blocked cell's byte is.
+// What the byte of a free cell is, and of a blocked one.
+const FREE: u8 = 0;
+
 const BLOCKED: u8 = 1;
 
 // Puts a value into the cells from one to just before another.
-pub fn fill(board: &mut [u8], from: usize, to: usize, value: u8)
+fn fill(board: &mut [u8], from: usize, to: usize, value: u8)
     requires { ⌜ (from ≤ to) × (to ≤ length (now board)) ⌝ }
     ensures { λ r. ⌜ Filled from to value (now (board .entry)) (now (board .exit)) ⌝ }
 {
@@ -36,7 +39,7 @@ fn paint(board: &mut [u8], width: usize, left: usize, top: usize, right: usize, 
 }
 
 // Blocks the cells of every keepout of an accepted job.
-pub fn paint_keepouts(job: &[u8], wide: usize, board: &mut [u8])
+fn paint_keepouts(job: &[u8], wide: usize, board: &mut [u8])
     requires { ⌜ Accepted (now job) ⌝ }
     requires { ⌜ (wide ≡ width (now job)) × (wide * height (now job) ≤ length (now board)) ⌝ }
     ensures { λ r. ⌜ Painted wide (inKeepout (now (job .entry))) (now (board .entry)) (now (board .exit)) ⌝ }
@@ -53,4 +56,14 @@ pub fn paint_keepouts(job: &[u8], wide: usize, board: &mut [u8])
         };
         paint(board, wide, left, top, right, bottom);
     }
+}
+
+// Writes the cells of an accepted job's board into the slice, and keeps what lies beyond them.
+pub fn write_cells(job: &[u8], wide: usize, cells: usize, board: &mut [u8])
+    requires { ⌜ Accepted (now job) ⌝ }
+    requires { ⌜ (wide ≡ width (now job)) × (cells ≡ width (now job) * height (now job)) × (cells ≤ length (now board)) ⌝ }
+    ensures { λ r. ⌜ now (board .exit) ≡ boardCells (now (job .entry)) ++ drop cells (now (board .entry)) ⌝ }
+{
+    fill(board, 0, cells, FREE);
+    paint_keepouts(job, wide, board);
 }
