@@ -21,7 +21,7 @@ module _ (job : List ℕ) where
   pub found-here : {index : ℕ} (i : ℕ) → i < records job → isNet job i ≡ true → howMany i (isNet job) ≡ index → recordAt job i ≡ netSaid job index
   unfolding netSaid
   found-here i l n e =
-    rw (← e, lt-leb (nets job) (howMany i (isNet job)) (many-above (isNet job) (records job) i l n), indexed-here (isNet job) (records job) i l n)
+      rw (← e, lt-leb (nets job) (howMany i (isNet job)) (many-above (isNet job) (records job) i l n), indexed-here (isNet job) (records job) i l n)
 
   pub found-none : {index : ℕ} → nets job ≤ index → Unknown ≡ netSaid job index
   unfolding netSaid
