@@ -118,12 +118,12 @@ turns-again c =
     let k = taken o in
     let l = turn k in (
       finding-next (start l .pre .0) (l .turns .inv .0) (leader k .first .ensures) (k .before .if1 .left) (not-goal k) {r = expanded o} (o .expand .ensures .0) (o .expand .ensures .1),
-      o .expand .kept .1 .1 .1 .1 .0 ∙ l .turns .inv .1,
-      o .expand .kept .1 .1 .1 .1 .1 .0 ∙ l .turns .inv .2,
-      o .expand .kept .1 .1 .1 .1 .1 .1 .0 ∙ l .turns .inv .3,
-      o .expand .kept .1 .1 .1 .1 .1 .1 .1 .0 ∙ l .turns .inv .4,
-      o .expand .kept .1 .1 .1 .1 .1 .1 .1 .1 .0 ∙ l .turns .inv .5,
-      o .expand .kept .1 .1 .1 .1 .1 .1 .1 .1 .1 .0 ∙ l .turns .inv .6,
+      _∙_ {b = length (l .turns .g)} (o .expand .kept .1 .1 .1 .1 .0) (l .turns .inv .1),
+      _∙_ {b = length (l .turns .parents)} (o .expand .kept .1 .1 .1 .1 .1 .0) (l .turns .inv .2),
+      _∙_ {b = length (l .turns .marks)} (o .expand .kept .1 .1 .1 .1 .1 .1 .0) (l .turns .inv .3),
+      _∙_ {b = length (l .turns .legs)} (o .expand .kept .1 .1 .1 .1 .1 .1 .1 .0) (l .turns .inv .4),
+      _∙_ {b = length (l .turns .leads)} (o .expand .kept .1 .1 .1 .1 .1 .1 .1 .1 .0) (l .turns .inv .5),
+      _∙_ {b = length (l .turns .keys)} (o .expand .kept .1 .1 .1 .1 .1 .1 .1 .1 .1 .0) (l .turns .inv .6),
     )
 
 pub run-spec : {M : Type 1} → statement M
