@@ -8,7 +8,7 @@ use Rattle.laws.proofs.Tests.{answered-no, answered-yes}
 use Rattle.board.specs.Limits.{vertices-fit}
 use Rattle.reach.specs.Turns.{at}
 use Rattle.theta.specs.Order.{Rank, ranked, sooner}
-use Rattle.tournament.specs.Ranks.{numbers, seen}
+use Rattle.ranks.specs.Ranks.{numbers, seen}
 use Rattle.tournament.proofs.Climbs.{Climbing, climbing-start, climbing-step, climbing-stop, climbing-end}
 use Rattle.tournament.proofs.tree.enter.Statement.{statement}
 use Rattle.tournament.proofs.tree.enter.Tie as tie
