@@ -17,7 +17,7 @@ use Rattle.length.specs.Units.{units}
 use Rattle.reach.specs.Turns.{at}
 use Rattle.theta.specs.Order.{Rank, ranked, sooner, least}
 use Rattle.theta.specs.Lent.{Better}
-use Rattle.tournament.specs.Ranks.{seen, numbers}
+use Rattle.ranks.specs.Ranks.{seen, numbers}
 use Rattle.tournament.specs.Contest.{noKey, WellRanked}
 use Rattle.tournament.specs.Tournament.{Else, Opened}
 use Rattle.tournament.specs.Nodes.{Entered, Renewed}

@@ -16,7 +16,7 @@ use Rattle.length.proofs.Units.{units-fit}
 use Rattle.spans.proofs.Legs.{step-size}
 use Rattle.reach.specs.Turns.{at}
 use Rattle.theta.specs.Order.{ranked, sooner}
-use Rattle.tournament.specs.Ranks.{seen, numbers}
+use Rattle.ranks.specs.Ranks.{seen, numbers}
 use Rattle.tournament.specs.Contest.{noKey, WellRanked, Leads, Between}
 use Rattle.tournament.specs.Tournament.{Shown}
 use Rattle.open.specs.Groups.{groupStart, groupEnd}

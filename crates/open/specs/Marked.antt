@@ -10,7 +10,7 @@ use Rattle.length.specs.Units.{units}
 use Rattle.reach.specs.Turns.{at}
 use Rattle.theta.specs.Order.{Contest, contest}
 use Rattle.theta.specs.Lent.{Better}
-use Rattle.tournament.specs.Ranks.{numbers}
+use Rattle.ranks.specs.Ranks.{numbers}
 use Rattle.tournament.specs.Contest.{noKey, Leads}
 use Rattle.tournament.specs.Tournament.{Tournament, ofLeaf}
 use Rattle.tournament.specs.Nodes.{Seated}

@@ -1,9 +1,9 @@
-// The order in which open vertices are taken, as the code tests it. The tournament knows no other test.
+// The order in which open vertices are taken, as the code tests it. The search knows no other test.
 ghost use mathlib.Core.Path.{_≡_};
 ghost use Prim.Native.Nat.{_<_};
 ghost use lib.ListN.{length};
 ghost use Rattle.theta.specs.Order.{ranked, sooner};
-ghost use Rattle.tournament.specs.Ranks.{seen};
+ghost use Rattle.ranks.specs.Ranks.{seen};
 use board::Vertex;
 
 // Whether the vertex v, with this f, g and count of legs, is taken rather than the holder, whose f is the key.

@@ -1,11 +1,11 @@
--- `tournament::order::ahead` tests as the order does: f, then g, then the legs, then the number.
+-- `ranks::inner::ahead` tests as the order does: f, then g, then the legs, then the number.
 use denote.Ref.{now}
 use Rattle.theta.specs.Order.{Rank, ranked}
-use Rattle.tournament.specs.Ranks.{seen}
+use Rattle.ranks.specs.Ranks.{seen}
 use Rattle.theta.proofs.Order.{sooner-f, sooner-g, sooner-legs, sooner-number}
 use borrow.Author.Needs.{needs}
-use Rattle.tournament.proofs.order.ahead.Statement.{statement}
-use Rattle.tournament.proofs.order.ahead.Tie as tie
+use Rattle.ranks.proofs.inner.ahead.Statement.{statement}
+use Rattle.ranks.proofs.inner.ahead.Tie as tie
 
 -- what the two are ordered by
 abbrev new : tie.Start → Rank
