@@ -8,8 +8,8 @@ use job::inner::write_board;
 use judge::inner::check_nets;
 use lending::Lengths;
 use lending::inner::too_short;
-use scan::Step as FileStep;
 use readback::check::check_routes;
+use scan::Step as FileStep;
 use steps::Progress;
 use steps::Step;
 

@@ -14,15 +14,16 @@ use Rattle.tracks.specs.Tracks.{Point}
 use Rattle.tracks.specs.Layout.{each, laidOut}
 use Rattle.tracks.specs.Answers.{Records, RoutesWritten}
 use Rattle.tracks.proofs.Laying.{each-length}
-use Rattle.tracking.specs.declared.Recorded.{Recorded}
+use Rattle.recording.specs.declared.Recorded.{Recorded}
+use Rattle.recording.specs.Calls.{RoutesWrittenForC}
 use Rattle.bureau.specs.Answers.{Nets, Slices, checkRow}
 use Rattle.approval.specs.declared.Approval.{Approval}
+use Rattle.approval.specs.Calls.{CheckedForC}
 use Rattle.rightness.specs.Own.{vertexPoint, vertexPoints, ownRoutes}
 use Rattle.rightness.specs.Demands.{AcceptedExactly, NoneExactly, OwnPass}
 use Rattle.rightness.proofs.Own.{points-length}
 use Rattle.rightness.proofs.Promised.{accepted-exactly, none-exactly}
 use Rattle.rightness.proofs.Written.{own-pass}
-use Rattle.wexxolin.specs.Calls.{CheckedForC, RoutesWrittenForC}
 
 -- the fields of C's structs, by their names
 abbrev pub checkFields : Approval → Handed Nets
