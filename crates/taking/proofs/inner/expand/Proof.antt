@@ -1,13 +1,13 @@
--- `turns::inner::expand` takes the vertex out of the open list, and makes its round.
+-- `taking::inner::expand` takes the vertex out of the open list, and makes its round.
 use Prim.Native.Nat.{_≤_}
 use native.Mathlib.Omega.{arith}
 use borrow.Author.Needs.{needs}
 use Rattle.board.specs.Limits.{mostVertices, vertices-fit}
 use Rattle.offers.specs.Request.{sizeOf}
 use Rattle.problem.proofs.Sizes.{vertices-most}
-use Rattle.turns.proofs.Finding.{taking-on, taking-sited, taking-number, taking-taken}
-use Rattle.turns.proofs.inner.expand.Statement.{statement}
-use Rattle.turns.proofs.inner.expand.Tie as tie
+use Rattle.taking.proofs.Taking.{taking-on, taking-sited, taking-number, taking-taken}
+use Rattle.taking.proofs.inner.expand.Statement.{statement}
+use Rattle.taking.proofs.inner.expand.Tie as tie
 
 few : (s : tie.Start) → sizeOf (s .args .request) ≤ mostVertices
 few s = vertices-most (s .args .request .width) (s .args .request .height) (s .pre .0 .sound .narrow) (s .pre .0 .sound .low)

@@ -1,4 +1,4 @@
--- The turns of the search on a board: what the contracts of the code say.
+-- A vertex is taken: what the contracts of the code say.
 use mathlib.Core.List.{List}
 use Prim.Native.Nat.{ℕ}
 use Rattle.theta.specs.Search.{State}
