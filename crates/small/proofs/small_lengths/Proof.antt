@@ -1,9 +1,9 @@
--- `entries::small_lengths` answers the small constant: each of its entries is right.
+-- `small::small_lengths` answers the small constant: each of its entries is right.
 use native.Mathlib.Omega.{arith}
 use Rattle.table.specs.Lengths.{smallSide, sumsOf}
 use Rattle.table.proofs.Table.{known-each}
-use Rattle.entries.proofs.small_lengths.Statement.{statement}
-use Rattle.entries.proofs.small_lengths.Tie as tie
+use Rattle.small.proofs.small_lengths.Statement.{statement}
+use Rattle.small.proofs.small_lengths.Tie as tie
 
 returns : tie.Need-returns
 returns c = known-each (sumsOf smallSide) _ (omega arith) tt
