@@ -3,7 +3,7 @@ use Prim.Native.Nat.{ℕ, zero, suc, _+_, _-_, _^_, _≤_, _<_}
 use mathlib.Core.Path.{_≡_, refl, sym, ap, _∙_}
 use mathlib.Core.Logic.{⊎-elim}
 use mathlib.Core.Bool.{Bool, true, false, _&&_, cond, true≢false}
-use mathlib.Core.List.{List, [], _∷_, _++_}
+use mathlib.Core.List.{List, [], _∷_}
 use native.Mathlib.Omega.{arith}
 use lib.Dec.{ltb, eqb}
 use lib.ListN.{length, getD, set, length-append}
@@ -11,7 +11,7 @@ use borrow.Author.Tests.{ltb-true, eqb-true, lt-ltb, le-ltb}
 use Rattle.laws.specs.Below.{asNumber}
 use Rattle.laws.proofs.Tests.{bool-cases, and-left, and-right, and-false}
 use Rattle.records.specs.Records.{records, byte}
-use Rattle.tracks.specs.Tracks.{Point, Route, route, isPoint, netOf, pointOf, withPoint, withRecord, routesFrom, routesIn}
+use Rattle.tracks.specs.Tracks.{Point, Route, isPoint, netOf, pointOf, withPoint, withRecord, routesFrom, routesIn}
 use Rattle.tracks.specs.Layout.{Slices, slices, numbersOf, countsOf, each, all, xsOf, ysOf}
 use Rattle.tracks.proofs.Laying.{each-length, counts-length, all-length}
 use Rattle.gather.specs.Inner.{goesOn, PointTaken, NetTaken, NetRoom, Room, Gathered}

@@ -1,8 +1,7 @@
 // Writes the routes of a file that passed into slices that are long enough: from the last record to the first.
 ghost use mathlib.Core.Path.{_≡_};
-ghost use mathlib.Core.Bool.{true, false, cond};
-ghost use Prim.Native.Nat.{_+_, _-_, _^_, _≤_, _<_};
-ghost use lib.ListN.{length, getD, set};
+ghost use Prim.Native.Nat.{_≤_, _<_};
+ghost use lib.ListN.{length};
 ghost use Rattle.laws.specs.Below.{asNumber};
 ghost use Rattle.records.specs.Records.{records, byte};
 ghost use Rattle.tracks.specs.Layout.{slices};

@@ -5,7 +5,7 @@ use mathlib.Core.List.{List, [], _∷_, _++_, append-assoc, append-nil}
 use native.Mathlib.Numerals.{add-one}
 use native.Mathlib.Omega.{arith}
 use lib.ListN.{length, getD, set, take, drop, length-append, length-drop, take-append-drop}
-use lib.Seq.{take-at, drop-at, drop-drop, drop-append-add, length-take-le, sets-eq}
+use lib.Seq.{take-at, drop-drop, drop-append-add, length-take-le, sets-eq}
 use Rattle.tracks.specs.Tracks.{Point, pointRecord, noneRecord, pointsFrom, netRecords, fileOf}
 use Rattle.tracks.specs.Layout.{Slices, pointsAt, pointsBefore, routesUpTo}
 use Rattle.tracks.specs.Answers.{laid, fileFor}

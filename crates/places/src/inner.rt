@@ -1,6 +1,6 @@
 // Calls for the crates above: a record's bytes and place, and which record may come next.
 ghost use mathlib.Core.Path.{_≡_};
-ghost use mathlib.Core.Bool.{Bool, cond};
+ghost use mathlib.Core.Bool.{cond};
 ghost use Prim.Native.Nat.{_+_, _≤_, _<_};
 ghost use Rattle.laws.specs.Below.{asNumber};
 ghost use Rattle.records.specs.Records.{recordBytes, records, byte};

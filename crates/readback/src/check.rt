@@ -1,5 +1,4 @@
 // Judges the records of a route file in order: 11, then in each record 13, 23 and 22.
-ghost use mathlib.Core.Path.{_≡_};
 ghost use Rattle.readback.specs.Inner.{Checked};
 use records::RECORD;
 use scan::Progress;

@@ -1,7 +1,7 @@
 // For the crates above: 13, 23 and 22 of one record.
 ghost use mathlib.Core.Path.{_≡_};
-ghost use mathlib.Core.Bool.{Bool, cond};
-ghost use Prim.Native.Nat.{_+_, _≤_, _<_};
+ghost use mathlib.Core.Bool.{cond};
+ghost use Prim.Native.Nat.{_≤_, _<_};
 ghost use Rattle.board.specs.Handed.{passes};
 ghost use Rattle.records.specs.Records.{recordBytes, records, inOrder, strayByte};
 ghost use Rattle.tracks.specs.Faults.{usedBy, recordRows};
@@ -18,7 +18,7 @@ use tracks::NONE;
 use tracks::POINT;
 use tracks::RouteRefusal;
 
-// The first byte that a point does not use, or none.
+// The first byte that a point does not use, or a record of no path.
 fn first_unused(point: bool) -> usize
     ensures { λ r. ⌜ r ≡ cond point 6 2 ⌝ }
 {

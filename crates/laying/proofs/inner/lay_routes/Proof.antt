@@ -1,15 +1,10 @@
 -- `laying::inner::lay_routes` writes net after net. The loop's invariant: the nets before are written.
-use mathlib.Core.Path.{_≡_, refl, sym, ap, _∙_}
-use mathlib.Core.List.{_++_}
-use Prim.Native.Nat.{ℕ, suc, _+_, _*_, _-_, _≤_, _<_}
-use native.Mathlib.Numerals.{add-one}
+use mathlib.Core.Path.{_≡_, refl, ap}
+use Prim.Native.Nat.{ℕ, _+_, _-_, _≤_, _<_}
 use native.Mathlib.Omega.{arith}
 use borrow.Author.Needs.{needs}
 use lib.ListN.{length}
-use Rattle.tracks.specs.Tracks.{fileOf}
-use Rattle.tracks.specs.Layout.{Slices, slices, pointsBefore, routesUpTo}
-use Rattle.tracks.specs.Inner.{recordsFor}
-use Rattle.tracks.specs.Answers.{laid}
+use Rattle.tracks.specs.Layout.{Slices, slices}
 use Rattle.laying.proofs.Written.{Laying, laying-none, laying-more, laying-room, laying-kept, laying-all, points-within}
 use Rattle.laying.proofs.inner.lay_routes.Statement.{statement}
 use Rattle.laying.proofs.inner.lay_routes.Tie as tie

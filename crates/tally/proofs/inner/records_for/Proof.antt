@@ -1,6 +1,5 @@
 -- `tally::inner::records_for` is 1 for no points.
 use mathlib.Core.Path.{sym, ap}
-use borrow.Author.Needs.{needs}
 use Rattle.tracks.specs.Inner.{recordsFor}
 use Rattle.tally.proofs.Parts.{nonzero}
 use Rattle.tally.proofs.inner.records_for.Statement.{statement}
