@@ -10,7 +10,7 @@ use netroute::WIDEST;
 use replies::inner::Sent;
 use replies::inner::never;
 use replies::inner::print_refusal;
-use routing::inner::print_nets;
+use nets::inner::print_nets;
 use streams::read_job;
 
 // One byte more than the longest job, so that a longer one is known.

@@ -1,13 +1,13 @@
--- `routing::inner::print_nets` sends a line for each net from the first on, unless one is lost.
+-- `nets::inner::print_nets` sends a line for each net from the first on, unless one is lost.
 use Prim.Native.Nat.{_-_, _≤_}
 use mathlib.Core.Path.{_≡_, refl, _∙_}
 use mathlib.Core.Bool.{true≢false, false≢true}
 use native.Mathlib.Omega.{arith}
 use lib.ListN.{length}
 use borrow.Author.Needs.{needs}
-use Rattle.routing.proofs.Answering.{nets-sent}
-use Rattle.routing.proofs.inner.print_nets.Statement.{statement}
-use Rattle.routing.proofs.inner.print_nets.Tie as tie
+use Rattle.nets.proofs.Answering.{nets-sent}
+use Rattle.nets.proofs.inner.print_nets.Statement.{statement}
+use Rattle.nets.proofs.inner.print_nets.Tie as tie
 
 abbrev Inv-loop : tie.InvT-loop
 Inv-loop job cells width height nets buffer₀ sent₀ buffer sent = (sent₀ ≡ 0) × (sent ≤ nets) × (length buffer ≡ length buffer₀)

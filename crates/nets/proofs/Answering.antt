@@ -33,7 +33,7 @@ use Rattle.netroute.proofs.Limits.{vertices-fit}
 use Rattle.netroute.proofs.Searching.{result-found, result-none, path-few}
 use Rattle.replies.specs.Output.{lineOf, lineCount, lineAt}
 use Rattle.replies.specs.Inner.{Answered}
-use Rattle.routing.specs.Inner.{Opened}
+use Rattle.nets.specs.Inner.{Opened}
 
 -- a net with an index below their number is there
 pub net-there : {job : List ℕ} {index : ℕ} → Accepted job → index < nets job → (r : NetAnswer)

@@ -3,7 +3,7 @@ ghost use lib.ListN.{length};
 ghost use Prim.Native.Nat.{_≤_, _<_};
 ghost use Rattle.netroute.specs.Limits.{lineRoom};
 ghost use Rattle.replies.specs.Inner.{AllSent};
-ghost use Rattle.routing.specs.Inner.{Opened};
+ghost use Rattle.nets.specs.Inner.{Opened};
 use board::Vertex;
 use job::NetAnswer;
 use job::inner::net_at;

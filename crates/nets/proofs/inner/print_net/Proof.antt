@@ -1,4 +1,4 @@
--- `routing::inner::print_net` routes the net with that index on the job's board.
+-- `nets::inner::print_net` routes the net with that index on the job's board.
 use mathlib.Core.Path.{_≡_, sym, ap, _∙_}
 use native.Mathlib.Omega.{arith}
 use borrow.Author.Needs.{needs}
@@ -6,9 +6,9 @@ use denote.Ref.{now}
 use Rattle.job.specs.Answers.{handedNet}
 use Rattle.kinds.specs.Job.{Net}
 use Rattle.job.proofs.Above.{NetGiven, net-given}
-use Rattle.routing.proofs.Answering.{net-there, net-legs, answered}
-use Rattle.routing.proofs.inner.print_net.Statement.{statement}
-use Rattle.routing.proofs.inner.print_net.Tie as tie
+use Rattle.nets.proofs.Answering.{net-there, net-legs, answered}
+use Rattle.nets.proofs.inner.print_net.Statement.{statement}
+use Rattle.nets.proofs.inner.print_net.Tie as tie
 
 net-at-requires : tie.Need-net-at-requires
 net-at-requires c κs = search needs
