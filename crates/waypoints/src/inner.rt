@@ -41,7 +41,7 @@ pub fn is_end_wrong(
     !begins | !ends
 }
 
-// 26: the first place whose point is off the board, or n.
+// 26: the first place whose point is off a board with these sides, whatever its cells; n if there is none.
 pub fn first_off(width: usize, height: usize, file: &[u8], first: usize, n: usize) -> usize
     requires { ⌜ first + n ≤ records (now file) ⌝ }
     ensures { λ r. ⌜ ((cells : List ℕ) → r ≡ offPlace (board cells width height) n (recordPoints (now (file .entry)) first)) ⌝ }
