@@ -56,6 +56,9 @@ target/wexxolin: $(PARTS) command/command.h command/picture.h include/wexxolin.h
 target/example: examples/route.c include/wexxolin.h target/libwexxolin.a
 	$(CC) $(CFLAGS) $(STRICT) -I include -o $@ $< target/libwexxolin.a $(LDFLAGS)
 else
+# The cross compiler's libm.a names files at places where they are not; the archive that it means stands beside it.
+MATH = $(or $(wildcard $(dir $(shell $(CC) -print-file-name=libm.a))libm-*.a),-lm)
+
 # target/NAME is a script that gives the program beside it, target/NAME.x86-64, to the emulator.
 script = printf '%s\n' '\#!/bin/sh' 'exec $(EMULATOR) $(1) "$$@"' > $@ && chmod +x $@
 
@@ -64,7 +67,7 @@ target/wexxolin-route: target/bin/route
 	$(call script,"$$(cd "$(KIT)" && pwd)/lib/ld-linux-x86-64.so.2" --library-path "$$(cd "$(KIT)" && pwd)/lib" "$$(readlink -f "$$0").x86-64")
 
 target/wexxolin: $(PARTS) command/command.h command/picture.h include/wexxolin.h target/libwexxolin.a
-	$(CC) $(CFLAGS) $(STRICT) -I include -o $@.x86-64 $(PARTS) target/libwexxolin.a $(LDFLAGS) -lm
+	$(CC) $(CFLAGS) $(STRICT) -I include -o $@.x86-64 $(PARTS) target/libwexxolin.a $(LDFLAGS) $(MATH)
 	$(call script,"$$(readlink -f "$$0").x86-64")
 
 target/example: examples/route.c include/wexxolin.h target/libwexxolin.a

@@ -36,7 +36,7 @@ part() {
     counted "$@" >"$OUT/counts.functions"
     awk -v e="$(awk 'NR == 1 { e = $4 } END { print e - $4 }' "$OUT/counts.nets")" '
         function part_of(inner, all) {
-            if (inner == "units_of" || inner ~ /^(table|length)::/ && inner !~ /_lengths$/) return "lengths"
+            if (inner == "units_of" || inner ~ /^(table|length|root)::/ && inner !~ /_lengths$/) return "lengths"
             if (all ~ / (walk|steps|slant|axis)( |$)/ || all ~ / walks::inner::sees( |$)/) return "sight tests"
             if (all ~ / (rise|put|take_first|key_of|place_of)( |$)/ || all ~ / (open|tournament)::/) return "open list"
             if (all ~ / (look|look_around|visible|run|write)( |$)/ || all ~ / turns::inner::run( |$)/) return "turns and neighbours"

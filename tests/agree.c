@@ -25,7 +25,7 @@ enum {
 };
 
 static struct dice dice;
-static size_t scale = 1;
+static struct scale scale = {1, 1};
 static const char *difference_file = "agree-difference.hex";
 
 /* No expression throws twice, so that the cases do not depend on the order in which a compiler takes its parts. */
@@ -197,18 +197,10 @@ static void open_rooms(void)
     rooms_watch(tell_fault);
 }
 
-/* An empty slice may come as any pointer: none of its entries has to be there. */
-static void *lend(struct room *room, size_t bytes, enum flush flush)
-{
-    static const uintptr_t wild[] = {0, 1, 8, (uintptr_t)1 << 63, UINTPTR_MAX};
-    void *slice = room_lend(room, bytes, flush);
-    return bytes == 0 && chance(50) ? (void *)wild[below(sizeof wild / sizeof *wild)] : slice;
-}
-
 /* Bytes that the library may only read. */
 static const uint8_t *lend_bytes(struct room *room, const uint8_t *bytes, size_t length, enum flush flush)
 {
-    const uint8_t *slice = lend(room, length, flush);
+    const uint8_t *slice = room_lend_any(room, length, flush, &dice);
     memcpy(room->ours + room->at, bytes, length);
     return slice;
 }
@@ -216,7 +208,7 @@ static const uint8_t *lend_bytes(struct room *room, const uint8_t *bytes, size_t
 /* Entries to be written. Those watched on the flush side have no place in the room: touching them is a fault. */
 static void *lend_entries(struct room *room, const void *old, size_t size, size_t length, enum flush flush)
 {
-    void *slice = lend(room, length * size, flush);
+    void *slice = room_lend_any(room, length * size, flush, &dice);
     size_t before = flush == AT_END ? PAD * size : 0;
     memcpy(room->ours + room->at - before, (const uint8_t *)old + PAD * size - before, (PAD + length) * size);
     return slice;
@@ -983,7 +975,7 @@ static void group_differences(void)
     for (size_t i = 0; i < FAR; i++)
         for (size_t j = 0; j < FAR; j++)
             compare_differences(far[i], far[j]);
-    for (size_t i = 0; i < 2000 * scale; i++) {
+    for (size_t i = 0; i < scaled(scale, 2000); i++) {
         int32_t dx = (int32_t)dice_throw(&dice), dy = (int32_t)dice_throw(&dice);
         compare_differences(dx, dy >> below(31));
     }
@@ -997,7 +989,7 @@ static void group_between(void)
                                  0x8000000000000000u, SIZE_MAX - 62, SIZE_MAX};
     enum { FAR = sizeof far / sizeof *far };
     begin_group("length and direction, between");
-    for (size_t k = 0; k < scale; k++)
+    for (size_t k = 0; k < scaled(scale, 1); k++)
         for (long dx = -63; dx <= 63; dx++)
             for (long dy = -63; dy <= 63; dy++) {
                 size_t ax = (dx < 0 ? (size_t)-dx : 0) + below(64 - (size_t)labs(dx));
@@ -1065,14 +1057,14 @@ static void for_small_sizes(size_t limit, void (*all_of)(size_t, size_t))
 static void group_small_sights(void)
 {
     begin_group("sight, every leg of every small board");
-    for_small_sizes(1700000 * scale, all_sights_of);
+    for_small_sizes(scaled(scale, 1700000), all_sights_of);
     end_group();
 }
 
 static void group_small_routes(void)
 {
     begin_group("route, every small board and ends");
-    for_small_sizes(140000 * scale, all_routes_of);
+    for_small_sizes(scaled(scale, 140000), all_routes_of);
     end_group();
 }
 
@@ -1108,7 +1100,7 @@ static struct leg_case random_leg(size_t width, size_t height)
 static void group_random_sights(void)
 {
     begin_group("sight, random legs of larger boards");
-    for (size_t k = 0; k < 400 * scale; k++) {
+    for (size_t k = 0; k < scaled(scale, 400); k++) {
         size_t width = random_side(), height = random_side();
         if (k % 4 == 0)
             width = 60 + below(4), height = 60 + below(4);
@@ -1133,7 +1125,7 @@ static void group_random_sights(void)
 static void group_single_cells(void)
 {
     begin_group("sight, single blocked or free cells");
-    for (size_t k = 0; k < 6000 * scale; k++) {
+    for (size_t k = 0; k < scaled(scale, 6000); k++) {
         size_t width = 1 + below(63), height = 1 + below(63);
         int all_but_one = k % 8 == 0;
         memset(cells, all_but_one, width * height);
@@ -1172,7 +1164,7 @@ static void sights_near(struct leg_case c)
 static void group_near_sights(void)
 {
     begin_group("sight, cells crossed or missed by a hair");
-    for (size_t k = 0; k < 500 * scale; k++) {
+    for (size_t k = 0; k < scaled(scale, 500); k++) {
         size_t least = k % 2 ? 1 : 58, width = least + below(64 - least), height = least + below(64 - least);
         memset(cells, 0, width * height);
         struct leg_case c = random_leg(width, height);
@@ -1210,7 +1202,7 @@ static void go_on(const struct route_case *on, size_t *x, size_t *y, long dx, lo
 static void group_pinched_sights(void)
 {
     begin_group("sight, diagonal pairs");
-    for (size_t k = 0; k < 500 * scale; k++) {
+    for (size_t k = 0; k < scaled(scale, 500); k++) {
         size_t most = k % 4 ? 10 : 62, width = 2 + below(most), height = 2 + below(most), pairs = 1 + below(k % 3 ? 4 : 30);
         board_pairs(&dice, cells, width, height, pairs);
         struct route_case on = route_on(cells, width, height);
@@ -1265,7 +1257,7 @@ static void make_dense(size_t width, size_t height) { board_scattered(&dice, cel
 static void group_thin_routes(void)
 {
     begin_group("route, long thin boards");
-    for (size_t k = 0; k < 400 * scale; k++) {
+    for (size_t k = 0; k < scaled(scale, 400); k++) {
         size_t width = 1 + below(3), height = 40 + below(24);
         if (k % 2) {
             size_t swap = width;
@@ -1287,7 +1279,7 @@ static void group_thin_routes(void)
 static void group_enclosed_routes(void)
 {
     begin_group("route, start or goal walled in");
-    for (size_t k = 0; k < 150 * scale; k++) {
+    for (size_t k = 0; k < scaled(scale, 150); k++) {
         size_t width = 1 + below(16), height = 1 + below(16);
         board_scattered(&dice, cells, width, height, below(20));
         struct route_case c = route_on(cells, width, height);
@@ -1307,7 +1299,7 @@ static void group_enclosed_routes(void)
 static void group_pinched_routes(void)
 {
     begin_group("route, pinched start or goal");
-    for (size_t k = 0; k < 600 * scale; k++) {
+    for (size_t k = 0; k < scaled(scale, 600); k++) {
         size_t width = 2 + below(12), height = 2 + below(12);
         make_pairs(width, height);
         struct route_case c = route_on(cells, width, height);
@@ -1383,35 +1375,35 @@ static void group_tied_routes(void)
     begin_group("route, ties that legs decide");
     for (size_t k = 0; k < sizeof tied_boards / sizeof *tied_boards; k++)
         for (size_t way = 0; way < 8; way++)
-            for (size_t n = 0; n < 40 * scale; n++)
+            for (size_t n = 0; n < scaled(scale, 40); n++)
                 tied_route(&tied_boards[k], way, n % 3);
     end_group();
 }
 
 static void group_random_routes(void)
 {
-    random_routes("route, small boards, few blocked", 2500 * scale, make_sparse, 1, 10, 0);
-    random_routes("route, small boards, middling", 5000 * scale, make_middling, 1, 11, 1);
-    random_routes("route, small boards, dense", 1500 * scale, make_dense, 1, 12, 0);
-    random_routes("route, medium boards, few blocked", 60 * scale, make_sparse, 16, 36, 1);
-    random_routes("route, medium boards, middling", 120 * scale, make_middling, 16, 36, 1);
-    random_routes("route, medium boards, dense", 150 * scale, make_dense, 16, 36, 0);
-    random_routes("route, large boards, few blocked", 8 * scale, make_sparse, 50, 63, 1);
-    random_routes("route, large boards, middling", 12 * scale, make_middling, 50, 63, 1);
-    random_routes("route, large boards, dense", 20 * scale, make_dense, 50, 63, 0);
-    random_routes("route, keepouts", 150 * scale, make_keepouts, 5, 32, 1);
-    random_routes("route, mazes", 60 * scale, make_maze, 3, 31, 1);
-    random_routes("route, large mazes", 3 * scale, make_maze, 61, 63, 1);
-    random_routes("route, serpentines", 60 * scale, make_serpentine, 3, 31, 1);
-    random_routes("route, large serpentines", 3 * scale, make_serpentine, 61, 63, 1);
-    random_routes("route, diagonal gaps", 200 * scale, make_chequered, 2, 26, 1);
-    random_routes("route, diagonal pairs", 500 * scale, make_pairs, 2, 20, 1);
-    random_routes("route, large boards, diagonal pairs", 8 * scale, make_pairs, 50, 63, 1);
-    random_routes("route, staircases", 100 * scale, make_staircases, 3, 26, 1);
-    random_routes("route, many equal routes", 400 * scale, make_lattice, 3, 26, 1);
-    random_routes("route, large boards, equal routes", 6 * scale, make_lattice, 50, 63, 1);
-    random_routes("route, mirrored boards", 200 * scale, make_mirrored, 3, 24, 1);
-    random_routes("route, boards cut in two", 150 * scale, make_divided, 2, 24, 1);
+    random_routes("route, small boards, few blocked", scaled(scale, 2500), make_sparse, 1, 10, 0);
+    random_routes("route, small boards, middling", scaled(scale, 5000), make_middling, 1, 11, 1);
+    random_routes("route, small boards, dense", scaled(scale, 1500), make_dense, 1, 12, 0);
+    random_routes("route, medium boards, few blocked", scaled(scale, 60), make_sparse, 16, 36, 1);
+    random_routes("route, medium boards, middling", scaled(scale, 120), make_middling, 16, 36, 1);
+    random_routes("route, medium boards, dense", scaled(scale, 150), make_dense, 16, 36, 0);
+    random_routes("route, large boards, few blocked", scaled(scale, 8), make_sparse, 50, 63, 1);
+    random_routes("route, large boards, middling", scaled(scale, 12), make_middling, 50, 63, 1);
+    random_routes("route, large boards, dense", scaled(scale, 20), make_dense, 50, 63, 0);
+    random_routes("route, keepouts", scaled(scale, 150), make_keepouts, 5, 32, 1);
+    random_routes("route, mazes", scaled(scale, 60), make_maze, 3, 31, 1);
+    random_routes("route, large mazes", scaled(scale, 3), make_maze, 61, 63, 1);
+    random_routes("route, serpentines", scaled(scale, 60), make_serpentine, 3, 31, 1);
+    random_routes("route, large serpentines", scaled(scale, 3), make_serpentine, 61, 63, 1);
+    random_routes("route, diagonal gaps", scaled(scale, 200), make_chequered, 2, 26, 1);
+    random_routes("route, diagonal pairs", scaled(scale, 500), make_pairs, 2, 20, 1);
+    random_routes("route, large boards, diagonal pairs", scaled(scale, 8), make_pairs, 50, 63, 1);
+    random_routes("route, staircases", scaled(scale, 100), make_staircases, 3, 26, 1);
+    random_routes("route, many equal routes", scaled(scale, 400), make_lattice, 3, 26, 1);
+    random_routes("route, large boards, equal routes", scaled(scale, 6), make_lattice, 50, 63, 1);
+    random_routes("route, mirrored boards", scaled(scale, 200), make_mirrored, 3, 24, 1);
+    random_routes("route, boards cut in two", scaled(scale, 150), make_divided, 2, 24, 1);
     group_thin_routes();
     group_enclosed_routes();
     group_pinched_routes();
@@ -1526,7 +1518,7 @@ static void refused_slices(void)
 /* Several things wrong at once: the lowest number wins. */
 static void refused_mixtures(void)
 {
-    for (size_t k = 0; k < 15000 * scale; k++) {
+    for (size_t k = 0; k < scaled(scale, 15000); k++) {
         size_t width = 1 + below(5), height = 1 + below(5), vertices = (width + 1) * (height + 1);
         board_scattered(&dice, cells, width, height, below(50));
         struct route_case c = route_on(cells, width, height);
@@ -1756,7 +1748,7 @@ static void group_random_jobs(void)
 {
     static struct job job, damaged;
     begin_group("job reader, random jobs");
-    for (size_t k = 0; k < 1500 * scale; k++) {
+    for (size_t k = 0; k < scaled(scale, 1500); k++) {
         size_t width = 1 + below(63), height = 1 + below(63);
         if (k % 100 == 7)
             job_full(&dice, &job, width, height);
@@ -1768,7 +1760,7 @@ static void group_random_jobs(void)
     }
     end_group();
     begin_group("job reader, damaged jobs");
-    for (size_t k = 0; k < 12000 * scale; k++) {
+    for (size_t k = 0; k < scaled(scale, 12000); k++) {
         if (k % 40 == 3)
             job_random(&dice, &job, 200, 255, 63);
         else
@@ -1779,7 +1771,7 @@ static void group_random_jobs(void)
     }
     end_group();
     begin_group("lines of random and damaged jobs");
-    for (size_t k = 0; k < 400 * scale; k++) {
+    for (size_t k = 0; k < scaled(scale, 400); k++) {
         job_random(&dice, &job, 12, 8, k % 20 == 0 ? 30 : 10);
         if (k % 3 == 0)
             job_damage(&dice, &job);
@@ -1817,15 +1809,15 @@ static void all_routes(uint64_t seed)
 int main(int argc, char **argv)
 {
     uint64_t seed = argc > 2 ? strtoull(argv[2], NULL, 0) : 1;
-    scale = argc > 1 ? (size_t)strtoull(argv[1], NULL, 0) : 1;
+    scale = scale_of(argc > 1 ? argv[1] : "1");
     if (argc > 3)
         difference_file = argv[3];
-    if (scale == 0) {
+    if (scale.times == 0) {
         fprintf(stderr, "usage: agree [SCALE [SEED [FILE [PART]]]], SCALE at least 1\n");
         return 2;
     }
     const char *part = argc > 4 ? argv[4] : "all";
-    printf("scale %zu, seed %llu, %s\n", scale, (unsigned long long)seed, part);
+    printf("scale %zu/%zu, seed %llu, %s\n", scale.times, scale.share, (unsigned long long)seed, part);
     open_rooms();
     if (strcmp(part, "routes") != 0)
         all_but_routes(seed);

@@ -15,7 +15,7 @@
 enum { LARGEST = 24, MOST_CELLS = LARGEST * LARGEST, MOST_VERTICES = (LARGEST + 1) * (LARGEST + 1) };
 
 static struct dice dice;
-static size_t scale = 1;
+static struct scale scale = {1, 1};
 
 static size_t below(size_t count) { return dice_below(&dice, count); }
 
@@ -118,7 +118,7 @@ static void group_small_boards(void)
     for (size_t width = 1; width <= 12; width++)
         for (size_t height = 1; height <= 12; height++) {
             size_t vertices = (width + 1) * (height + 1);
-            if (width * height <= 20 && ((size_t)1 << width * height) * vertices * vertices <= 1700000 * scale)
+            if (width * height <= 20 && ((size_t)1 << width * height) * vertices * vertices <= scaled(scale, 1700000))
                 all_boards(width, height);
         }
     end_group();
@@ -157,14 +157,14 @@ static void thrown_boards(const char *name, size_t boards, size_t least, size_t 
 int main(int argc, char **argv)
 {
     uint64_t seed = argc > 2 ? strtoull(argv[2], NULL, 0) : 1;
-    scale = argc > 1 ? (size_t)strtoull(argv[1], NULL, 0) : 1;
-    if (scale == 0) {
+    scale = scale_of(argc > 1 ? argv[1] : "1");
+    if (scale.times == 0) {
         fprintf(stderr, "usage: angles [SCALE [SEED]], SCALE at least 1\n");
         return 2;
     }
     dice = dice_of(seed + 2);
     group_small_boards();
-    thrown_boards("thrown boards to 10 by 10", 2000 * scale, 2, 10, 40);
-    thrown_boards("thrown boards to 24 by 24", 60 * scale, 11, LARGEST, 40);
+    thrown_boards("thrown boards to 10 by 10", scaled(scale, 2000), 2, 10, 40);
+    thrown_boards("thrown boards to 24 by 24", scaled(scale, 60), 11, LARGEST, 40);
     return 0;
 }

@@ -1,6 +1,7 @@
 #include "boards.h"
 
 #include <stdio.h>
+#include <stdlib.h>
 #include <string.h>
 
 struct dice dice_of(uint64_t seed)
@@ -37,6 +38,23 @@ void dice_fill(struct dice *dice, void *bytes, size_t count)
         to += part;
         count -= part;
     }
+}
+
+struct scale scale_of(const char *word)
+{
+    char *end = NULL;
+    struct scale scale = {(size_t)strtoull(word, &end, 10), 1};
+    if (*end == '/')
+        scale.share = (size_t)strtoull(end + 1, NULL, 10);
+    if (scale.share == 0)
+        scale.times = 0;
+    return scale;
+}
+
+size_t scaled(struct scale scale, size_t n)
+{
+    size_t times = n * scale.times / scale.share;
+    return times ? times : 1;
 }
 
 void board_scattered(struct dice *dice, uint8_t *cells, size_t width, size_t height, size_t percent)

@@ -29,6 +29,16 @@ void board_divided(struct dice *dice, uint8_t *cells, size_t width, size_t heigh
 /* Blocks the four cells around a vertex. */
 void board_enclose(uint8_t *cells, size_t width, size_t height, size_t x, size_t y);
 
+/* How often random cases are thrown: SCALE times, a whole number or a share such as 1/8; 0 times is no scale. */
+struct scale {
+    size_t times, share;
+};
+
+struct scale scale_of(const char *word);
+
+/* n scaled, at least 1. */
+size_t scaled(struct scale scale, size_t n);
+
 enum { JOB_ROOM = 70000 };
 
 struct job {

@@ -24,7 +24,7 @@ enum {
 };
 
 static struct dice dice;
-static size_t scale = 1;
+static struct scale scale = {1, 1};
 
 static size_t below(size_t count) { return dice_below(&dice, count); }
 static int chance(size_t percent) { return below(100) < percent; }
@@ -345,7 +345,7 @@ static void compare_by_rooms(void)
 static void group_own(void)
 {
     begin_group("check, our own routes");
-    for (size_t turn = 0; turn < 300 * scale; turn++) {
+    for (size_t turn = 0; turn < scaled(scale, 300); turn++) {
         throw_job();
         own_routes();
         roomy();
@@ -394,7 +394,7 @@ static void damage(void)
 static void group_damaged(void)
 {
     begin_group("check, damaged files");
-    for (size_t turn = 0; turn < 4000 * scale; turn++) {
+    for (size_t turn = 0; turn < scaled(scale, 4000); turn++) {
         throw_job();
         own_routes();
         for (size_t k = 1 + below(2); k > 0 && routes.length >= 8; k--)
@@ -426,7 +426,7 @@ static void add_point(unsigned net, unsigned place, size_t width, size_t height)
 static void group_short(void)
 {
     begin_group("check, short paths");
-    for (size_t turn = 0; turn < 6000 * scale; turn++) {
+    for (size_t turn = 0; turn < scaled(scale, 6000); turn++) {
         job_random(&dice, &job, 8, 2, 5);
         struct wexxolin_board board = wexxolin_board(job.bytes, job.length, before[BOARD], MOST_CELLS);
         routes.length = 0;
@@ -449,7 +449,7 @@ static void group_short(void)
 static void group_long(void)
 {
     begin_group("check, long paths");
-    for (size_t turn = 0; turn < 20 * scale; turn++) {
+    for (size_t turn = 0; turn < scaled(scale, 20); turn++) {
         unsigned legs = 2 * (unsigned)(120 + below(200)), fault = (unsigned)below(2 * legs);
         job.length = 0;
         job_hex(&job, "0100050400000000 0303010103030000");
@@ -467,7 +467,7 @@ static void group_long(void)
 
 int main(int count, char **words)
 {
-    scale = count > 1 ? strtoul(words[1], NULL, 10) : 1;
+    scale = scale_of(count > 1 ? words[1] : "1");
     dice = dice_of(count > 2 ? strtoul(words[2], NULL, 10) : 1);
     open_rooms();
     group_by_hand();

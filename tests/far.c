@@ -462,7 +462,7 @@ static void far_check(void)
 int main(int argc, char **argv)
 {
     static const size_t sizes[][2] = {{1, 1}, {2, 3}, {7, 5}, {1, 63}, {63, 1}, {16, 16}, {63, 63}};
-    size_t scale = argc > 1 ? (size_t)strtoull(argv[1], NULL, 0) : 1;
+    struct scale scale = scale_of(argc > 1 ? argv[1] : "1");
     dice = dice_of(argc > 2 ? strtoull(argv[2], NULL, 0) : 1);
     open_slice(&cells, "cells", 1);
     open_slice(&g, "g", sizeof(uint64_t));
@@ -477,7 +477,7 @@ int main(int argc, char **argv)
     open_slice(&units, "units", sizeof(uint64_t));
     open_slice(&leg_counts, "leg_counts", sizeof(uint32_t));
     rooms_watch(tell_fault);
-    for (size_t k = 0; k < 2100 * scale; k++) {
+    for (size_t k = 0; k < scaled(scale, 2100); k++) {
         const size_t *size = sizes[k % (sizeof sizes / sizeof *sizes)];
         far_slices(good_case(size[0], size[1]));
         far_ends(good_case(size[0], size[1]));

@@ -41,7 +41,9 @@ int main()
         || leg.units != 5 * WEXXOLIN_UNITS_PER_CELL;
 }
 END
-$cxx -std=c++17 -Wall -Wextra -I "$root/include" -o "$OUT/version" "$OUT/version.cc" $LIBRARY $LINK
+# Linked by the C compiler, since it uses nothing of the C++ library: a cross compiler may have none to link with.
+$cxx -std=c++17 -Wall -Wextra -I "$root/include" -c -o "$OUT/version.o" "$OUT/version.cc"
+$CC -o "$OUT/version" "$OUT/version.o" $LIBRARY $LINK
 $RUN "$OUT/version" || { echo "header and library are not of the same version" >&2; exit 1; }
 
 # The header declares what the library exports, each call by its edition.

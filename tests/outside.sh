@@ -3,7 +3,7 @@
 # The routes, the thrown jobs and what is lost run beside the rest. The last line counts the comparisons of programs: 'N passed, 0 failed'.
 set -eu
 . "$(dirname "$0")/settings.sh"
-scale=${1:-1} seed=${2:-1}
+scale=${1:-$SCALE} seed=${2:-1}
 rooms=$OUT/rooms.o boards=$OUT/boards.o second=$OUT/second.o packer=$OUT/packer.o printer=$OUT/printer.o recorder=$OUT/recorder.o checker=$OUT/checker.o
 running=
 trap 'kill $running 2>/dev/null || true' EXIT
@@ -46,7 +46,7 @@ finish agree
 build agree "$OUT/agree.o" "$rooms" "$boards" "$second"
 
 beside routes $RUN "$OUT/agree" "$scale" "$seed" "$OUT/agree-difference.hex" routes
-beside thrown $RUN "$OUT/thrown" "$scale" "$seed" "$root/tests/run_route.sh"
+beside thrown $RUN "$OUT/thrown" "${scale%/*}" "$seed" "$root/tests/run_route.sh"
 beside lost "$root/tests/lost.sh" "$root/tests/run_route.sh"
 
 $RUN "$OUT/agree" "$scale" "$seed" "$OUT/agree-difference-others.hex" others

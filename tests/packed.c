@@ -24,7 +24,7 @@ enum {
 };
 
 static struct dice dice;
-static size_t scale = 1;
+static struct scale scale = {1, 1};
 
 static size_t below(size_t count) { return dice_below(&dice, count); }
 static int chance(size_t percent) { return below(100) < percent; }
@@ -134,14 +134,6 @@ static void open_rooms(void)
     rooms_watch(tell_fault);
 }
 
-/* An empty slice may come as any pointer: none of its bytes has to be there. */
-static void *lend(struct room *room, size_t length, enum flush flush)
-{
-    static const uintptr_t wild[] = {0, 1, 8, (uintptr_t)1 << 63, UINTPTR_MAX};
-    void *slice = room_lend(room, length, flush);
-    return length == 0 && chance(50) ? (void *)wild[below(sizeof wild / sizeof *wild)] : slice;
-}
-
 static uint8_t before[ROOM], theirs[ROOM], ours[ROOM];
 
 /* The slice as the call left it, with the watched bytes; those on the flush side have no place in the room. */
@@ -149,9 +141,9 @@ static struct answer call_library(const struct request *r, enum flush flush)
 {
     size_t ahead = flush == AT_END ? PAD : 0;
     in_hand = r;
-    const uint8_t *bytes = lend(&read_room, r->length, flush);
+    const uint8_t *bytes = room_lend_any(&read_room, r->length, flush, &dice);
     memcpy(read_room.ours + read_room.at, r->bytes, r->length);
-    uint8_t *out = lend(&write_room, r->lent, flush);
+    uint8_t *out = room_lend_any(&write_room, r->lent, flush, &dice);
     memcpy(write_room.ours + write_room.at - ahead, before + PAD - ahead, PAD + r->lent);
     struct answer answer = ask_library(r, bytes, out);
     memcpy(theirs, before, PAD + r->lent + PAD);
@@ -377,7 +369,7 @@ static void compare_by_rooms(struct request r)
 static void for_every_size(const char *name, void (*of)(size_t width, size_t height))
 {
     begin_group(name);
-    for (size_t turn = 0; turn < scale; turn++)
+    for (size_t turn = 0; turn < scaled(scale, 1); turn++)
         for (size_t width = 1; width <= LARGEST; width++)
             for (size_t height = 1; height <= LARGEST; height++)
                 of(width, height);
@@ -519,7 +511,7 @@ static size_t changed(size_t length) { return chance(70) ? length : length + 2 -
 static void group_mixtures(void)
 {
     begin_group("packed, refusals mixed");
-    for (size_t k = 0; k < 40000 * scale; k++) {
+    for (size_t k = 0; k < scaled(scale, 40000); k++) {
         size_t width = 1 + below(20), height = 1 + below(4), at = below(width * height), bit = below(8 * packed_length(width, height));
         throw_board(width, height);
         struct request r = unpack_of(width, height), w = pack_of(width, height);
@@ -543,8 +535,8 @@ static void group_mixtures(void)
 int main(int argc, char **argv)
 {
     uint64_t seed = argc > 2 ? strtoull(argv[2], NULL, 0) : 1;
-    scale = argc > 1 ? (size_t)strtoull(argv[1], NULL, 0) : 1;
-    if (scale == 0) {
+    scale = scale_of(argc > 1 ? argv[1] : "1");
+    if (scale.times == 0) {
         fprintf(stderr, "usage: packed [SCALE [SEED]], SCALE at least 1\n");
         return 2;
     }

@@ -203,19 +203,19 @@ static void try_job(size_t k)
 int main(int argc, char **argv)
 {
     static struct values v;
-    size_t scale = argc > 1 ? (size_t)strtoull(argv[1], NULL, 0) : 1;
+    struct scale scale = scale_of(argc > 1 ? argv[1] : "1");
     dice = dice_of(argc > 2 ? strtoull(argv[2], NULL, 0) : 1);
     room_open(&path_room, "path", MOST * sizeof(wexxolin_vertex), READ_ONLY);
     room_open(&out_room, "the line's slice", BYTES, WRITABLE);
     rooms_watch(tell_fault);
     longest(&v);
-    for (size_t k = 0; k < 10000 * scale; k++) {
+    for (size_t k = 0; k < scaled(scale, 10000); k++) {
         any_values(&v);
         try_line(&v);
         if (k % 50 == 0 && v.count < 12)
             try_every_slice(&v);
     }
-    for (size_t k = 0; k < 200 * scale; k++)
+    for (size_t k = 0; k < scaled(scale, 200); k++)
         try_job(k);
     printf("%-34s %10llu calls compared\n", "lines", (unsigned long long)calls);
     return 0;

@@ -1,5 +1,6 @@
 #define _GNU_SOURCE /* memfd_create */
 #include "rooms.h"
+#include "boards.h"
 
 #include <signal.h>
 #include <stdio.h>
@@ -71,6 +72,13 @@ void *room_lend(struct room *room, size_t length, enum flush flush)
     room->length = length;
     room->flush = flush;
     return room->lent + room->at;
+}
+
+void *room_lend_any(struct room *room, size_t length, enum flush flush, struct dice *dice)
+{
+    static const uintptr_t wild[] = {0, 1, 8, (uintptr_t)1 << 63, UINTPTR_MAX};
+    void *slice = room_lend(room, length, flush);
+    return length == 0 && dice_below(dice, 100) < 50 ? (void *)wild[dice_below(dice, sizeof wild / sizeof *wild)] : slice;
 }
 
 /* An emulator may start a signal's function on a stack that is not aligned as x86-64 has it. */

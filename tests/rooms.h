@@ -29,6 +29,10 @@ void room_open_far(struct room *room, const char *name, size_t bytes, size_t wri
 /* A slice of so many bytes, as the library is lent it; room->ours + room->at is where the harness fills it. */
 void *room_lend(struct room *room, size_t length, enum flush flush);
 
+/* The same, but that an empty slice may come as any pointer, as the dice fall: none of its bytes has to be there. */
+struct dice;
+void *room_lend_any(struct room *room, size_t length, enum flush flush, struct dice *dice);
+
 /* From now on a fault calls tell with the place that was touched; tell does not come back. */
 void rooms_watch(void (*tell)(const char *where));
 

@@ -23,7 +23,7 @@ enum {
 };
 
 static struct dice dice;
-static size_t scale = 1;
+static struct scale scale = {1, 1};
 
 static size_t below(size_t count) { return dice_below(&dice, count); }
 static int chance(size_t percent) { return below(100) < percent; }
@@ -138,14 +138,6 @@ static void open_rooms(void)
 
 static size_t bytes_of(const struct request *r, size_t k) { return r->length[k] * shapes[r->call].size[k]; }
 
-/* An empty slice may come as any pointer: none of its entries has to be there. */
-static void *lend(struct room *room, size_t bytes, enum flush flush)
-{
-    static const uintptr_t wild[] = {0, 1, 8, (uintptr_t)1 << 63, UINTPTR_MAX};
-    void *slice = room_lend(room, bytes, flush);
-    return bytes == 0 && chance(50) ? (void *)wild[below(sizeof wild / sizeof *wild)] : slice;
-}
-
 static struct answer call_library(const struct request *r, enum flush flush)
 {
     void *lent[SLICES];
@@ -153,7 +145,7 @@ static struct answer call_library(const struct request *r, enum flush flush)
     in_hand = r;
     for (size_t k = 0; k < slices; k++) {
         struct room *room = shapes[r->call].written[k] ? &rooms[k] : &read_rooms[k];
-        lent[k] = lend(room, bytes_of(r, k), flush);
+        lent[k] = room_lend_any(room, bytes_of(r, k), flush, &dice);
         memcpy(room->ours + room->at, before[k], bytes_of(r, k));
     }
     struct answer answer = ask(r, 1, lent);
@@ -283,7 +275,7 @@ static void check_both_ways(void)
 static void group_whole_files(void)
 {
     begin_group("routes, whole files");
-    for (size_t k = 0; k < 3000 * scale; k++) {
+    for (size_t k = 0; k < scaled(scale, 3000); k++) {
         throw_file(below(k % 10 == 0 ? 255 : 12), 1 + below(k % 7 == 0 ? 600 : 9));
         compare_rooms();
         check_both_ways();
@@ -382,7 +374,7 @@ static void damage(void)
 static void group_damaged(void)
 {
     begin_group("routes, damaged files");
-    for (size_t k = 0; k < 60000 * scale; k++) {
+    for (size_t k = 0; k < scaled(scale, 60000); k++) {
         throw_file(1 + below(6), 1 + below(5));
         for (size_t n = 1 + below(3); n > 0; n--)
             damage();
@@ -419,7 +411,7 @@ static struct request throw_routes(size_t nets, size_t points)
 static void group_writing(void)
 {
     begin_group("routes, writing");
-    for (size_t k = 0; k < 40000 * scale; k++) {
+    for (size_t k = 0; k < scaled(scale, 40000); k++) {
         struct request r = throw_routes(below(9), 1 + below(k % 50 == 0 ? 700 : 6));
         promise(compare(&r).number == 0, &r, "slices that are just long enough are accepted");
         for (size_t s = 1; s < SLICES; s++) {
@@ -487,7 +479,7 @@ static void group_points(void)
     static const size_t widths[] = {0, 1, 2, 62, 63, 64, 255, 65535, (size_t)1 << 32, SIZE_MAX};
     wexxolin_vertex *path = (wexxolin_vertex *)before[0];
     begin_group("routes, paths into points");
-    for (size_t k = 0; k < 20000 * scale; k++) {
+    for (size_t k = 0; k < scaled(scale, 20000); k++) {
         size_t width = k % 8 == 0 ? widths[below(sizeof widths / sizeof *widths)] : 1 + below(63), count = below(40);
         struct request r = {POINTS, width, {count, count + below(2), count + below(2)}};
         for (size_t i = 0; i < count; i++)
@@ -504,8 +496,8 @@ static void group_points(void)
 int main(int argc, char **argv)
 {
     uint64_t seed = argc > 2 ? strtoull(argv[2], NULL, 0) : 1;
-    scale = argc > 1 ? (size_t)strtoull(argv[1], NULL, 0) : 1;
-    if (scale == 0) {
+    scale = scale_of(argc > 1 ? argv[1] : "1");
+    if (scale.times == 0) {
         fprintf(stderr, "usage: routes [SCALE [SEED]], SCALE at least 1\n");
         return 2;
     }

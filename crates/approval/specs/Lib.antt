@@ -1,1 +1,2 @@
 pub mod Approval
+pub mod Calls

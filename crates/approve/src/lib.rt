@@ -4,10 +4,12 @@ ghost use Rattle.approve.specs.Inner.{BothPassed};
 use board::Vertex;
 use bureau::CheckAnswer;
 use faults::inner::check_job;
-use job::read_board;
+use job::inner::write_board;
 use judge::inner::check_nets;
-use readback::Step as FileStep;
+use lending::Lengths;
+use lending::inner::too_short;
 use readback::check::check_routes;
+use scan::Step as FileStep;
 use steps::Progress;
 use steps::Step;
 
@@ -65,20 +67,21 @@ fn approve_accepted(
     let width = whole.width;
     let height = whole.height;
     let nets = whole.nets;
+    let lent = Lengths {
+        board: board.len(),
+        g: g.len(),
+        parents: parents.len(),
+        marks: marks.len(),
+        legs: legs.len(),
+        units: units.len(),
+        counts: counts.len(),
+    };
+    let short = too_short(width, height, nets, lent);
+    if !short.is_nothing() {
+        return short.answer();
+    }
     let cells = width * height;
-    if board.len() < cells {
-        return CheckAnswer::Board;
-    }
-    let vertices = (width + 1) * (height + 1);
-    if (g.len() < vertices)
-        | ((parents.len() < vertices) | ((marks.len() < vertices) | (legs.len() < vertices)))
-    {
-        return CheckAnswer::Work;
-    }
-    if (units.len() < nets) | (counts.len() < nets) {
-        return CheckAnswer::Results;
-    }
-    read_board(job, board);
+    write_board(job, whole, board);
     check_nets(
         job,
         file,

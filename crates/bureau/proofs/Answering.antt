@@ -69,34 +69,24 @@ module _ (job file : List ℕ) (before : Slices) where
     file-refused (route-refusal.Order i) e = kept (rw (accepted, e)) refl (rw accepted)
 
     module _ (clean : route-faults.fileRows file ≡ passes) where
-      pub board-short : length (before .board) < width job * height job → Checked job file before before said.Board
-      unfolding earlyRows roomRows
-      board-short l = kept (rw (accepted, clean, lt-ltb (length (before .board)) (width job * height job) l)) refl (rw accepted)
+      -- a lent slice is too short
+      pub room-refused : {r : CheckAnswer} {n p s : ℕ} → roomRows job before ≡ refused n p s → handedCheck r ≡ judged noNets (refused n p s) → isJobs r ≡ false
+          → Checked job file before before r
+      unfolding earlyRows
+      room-refused e h j = kept (rw (accepted, clean, e)) h (j ∙ rw accepted)
 
-      module _ (room : width job * height job ≤ length (before .board)) where
-        pub work-short : isWorkShort (vertices (jobBoard job)) (before .work) ≡ true → Checked job file before before said.Work
-        unfolding earlyRows roomRows workRow
-        work-short l = kept (rw (accepted, clean, le-ltb (length (before .board)) (width job * height job) room, l)) refl (rw accepted)
-
-        module _ (fits : isWorkShort (vertices (jobBoard job)) (before .work) ≡ false) where
-          pub results-short : isResultShort (nets job) (before .units) (before .legCounts) ≡ true → Checked job file before before said.Results
-          unfolding earlyRows roomRows workRow
-          results-short l = kept (rw (accepted, clean, le-ltb (length (before .board)) (width job * height job) room, fits, l)) refl (rw accepted)
-
-          -- ---- all of that passes: the cells are written, and the nets decide
-
-          pub nets-checked : isResultShort (nets job) (before .units) (before .legCounts) ≡ false
-              → {r : CheckAnswer} {w : Searching} {units legCounts : List ℕ}
-              → NetsChecked job file (before .work) w (before .units) units (before .legCounts) legCounts r
-              → Checked job file before (record { board = laid (boardCells job) (before .board); work = w; units = units; legCounts = legCounts }) r
-          unfolding earlyRows roomRows workRow checkRow checkRows slicesAfter
-          nets-checked l c =
-              let e : earlyRows job file before ≡ passes = rw (accepted, clean, le-ltb (length (before .board)) (width job * height job) room, fits, l) in
-              record {
-                row-is = c .row-is ∙ rw e;
-                job-is = c .job-is ∙ rw accepted;
-                after-is = rw (e, c .work-is, c .units-is, c .counts-is);
-              }
+      -- all of that passes: the cells are written, and the nets decide
+      pub nets-checked : roomRows job before ≡ passes → {r : CheckAnswer} {w : Searching} {units legCounts : List ℕ}
+          → NetsChecked job file (before .work) w (before .units) units (before .legCounts) legCounts r
+          → Checked job file before (record { board = laid (boardCells job) (before .board); work = w; units = units; legCounts = legCounts }) r
+      unfolding earlyRows checkRow checkRows slicesAfter
+      nets-checked room c =
+          let e : earlyRows job file before ≡ passes = rw (accepted, clean, room) in
+          record {
+            row-is = c .row-is ∙ rw e;
+            job-is = c .job-is ∙ rw accepted;
+            after-is = rw (e, c .work-is, c .units-is, c .counts-is);
+          }
 
 -- ---- the nets
 

@@ -6,7 +6,7 @@ use lib.ListN.{length}
 use Rattle.laws.specs.Below.{every, firstWhere}
 use Rattle.board.specs.Board.{Board, board, blocked}
 use Rattle.board.specs.Handed.{Verdict, passes, refused}
-use Rattle.length.specs.Root.{root, rootIn}
+use Rattle.root.specs.Root.{root, rootIn}
 use Rattle.length.specs.Units.{unitsOf}
 use Rattle.legs.specs.Pinched.{pinched}
 use Rattle.legs.specs.Sight.{side, positive, negative, someCorner, spans, crossed, cellsFree, rowWall, columnWall, between, edgesOpen, strictlyInside, verticesOpen, sees}

@@ -7,6 +7,7 @@ use mathlib.Core.List.{List}
 use lib.Dec.{eqb}
 use lib.ListN.{length, set}
 use Rattle.laws.specs.Below.{firstWhere}
+use Rattle.board.specs.Limits.{largestSide}
 use Rattle.board.specs.Board.{Board, vertices}
 use Rattle.board.specs.Inner.{Sound, OnBoard}
 use Rattle.board.specs.Handed.{Verdict, passes, refused, andThen, answer, unless}
@@ -61,6 +62,10 @@ pub record LastOf (file : List ℕ) (first last : ℕ) : Type 0 where
 pub record PointsOn (b : Board) (n : ℕ) (p : ℕ → Point) : Type 0 where
   pub on : (k : ℕ) → k < n → OnBoard b (p k .x) (p k .y)
 
+-- the first n points have coordinates that some board has
+pub record PointsSmall (n : ℕ) (p : ℕ → Point) : Type 0 where
+  pub small : (k : ℕ) → k < n → (p k .x ≤ largestSide) × (p k .y ≤ largestSide)
+
 -- the row of a fault of the net with this number
 abbrev pub faultRow : (number : ℕ) → Fault → Verdict
 faultRow number fault.Nothing = passes
@@ -110,10 +115,12 @@ pub record NetsJudged (job : List ℕ) (rs : List Route) (w w′ : Searching) (r
   pub row-is : faultsRow r ≡ netsRows job rs
   pub work-is : w′ ≡ afterNets job rs (nets job) w
 
--- points that are right for some net
-pub record Passed (b : Board) (ps : List Point) : Type 0 where
-  pub net : Net
-  pub right : netRows b net ps ≡ passes
+-- an accepted job with so many nets, and a file that gives each of them rightly
+pub record AllRight (job file : List ℕ) (many : ℕ) : Type 0 where
+  pub accepted : Accepted job
+  pub clean : fileRows file ≡ passes
+  pub right : netsRows job (routesIn file) ≡ passes
+  pub many-is : many ≡ nets job
 
 -- the length and the legs of these points are written at an index
 pub record Measured (ps : List Point) (index : ℕ) (units legCounts units′ legCounts′ : List ℕ) : Type 0 where

@@ -9,7 +9,7 @@ use Rattle.board.specs.Board.{Board, board}
 use Rattle.board.specs.Handed.{Verdict, row}
 use Rattle.records.specs.Records.{records, inOrder, isIn}
 use Rattle.kinds.specs.Job.{isNet, Net, netAt, netRecord, nets, width, height, boardCells}
-use Rattle.packed.specs.Packed.{entries}
+use Rattle.bits.specs.Packed.{entries}
 use Rattle.tracks.specs.Tracks.{Point, Route}
 use Rattle.tracks.specs.Layout.{numbersOf}
 use Rattle.bureau.specs.Paths.{pointAt, netRows, unitsAlong}

@@ -8,7 +8,7 @@ use lib.ListN.{length, getD}
 use Rattle.laws.specs.Below.{firstWhere}
 use Rattle.board.specs.Board.{Board, isVertex}
 use Rattle.board.specs.Handed.{Verdict, passes, refused, row, andThen}
-use Rattle.length.specs.Legs.{step}
+use Rattle.spans.specs.Legs.{step}
 use Rattle.length.specs.Units.{units}
 use Rattle.legs.specs.Sight.{sees}
 use Rattle.legs.specs.Pinched.{pinched}

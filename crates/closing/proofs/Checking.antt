@@ -8,21 +8,22 @@ use lib.ListN.{length, getD}
 use Rattle.board.specs.Board.{Board, columnOf, rowOf}
 use Rattle.board.specs.Handed.{Handed}
 use Rattle.faults.specs.Inner.{Accepted}
-use Rattle.packed.proofs.Entries.{entries-all}
+use Rattle.bits.proofs.Entries.{entries-all}
 use Rattle.corners.specs.Corners.{columns, rows}
 use Rattle.tracks.specs.Tracks.{Point}
 use Rattle.tracks.specs.Layout.{each, laidOut}
 use Rattle.tracks.specs.Answers.{Records, RoutesWritten}
 use Rattle.tracks.proofs.Laying.{each-length}
-use Rattle.tracking.specs.declared.Recorded.{Recorded}
+use Rattle.recording.specs.declared.Recorded.{Recorded}
+use Rattle.recording.specs.Calls.{RoutesWrittenForC}
 use Rattle.bureau.specs.Answers.{Nets, Slices, checkRow}
 use Rattle.approval.specs.declared.Approval.{Approval}
+use Rattle.approval.specs.Calls.{CheckedForC}
 use Rattle.rightness.specs.Own.{vertexPoint, vertexPoints, ownRoutes}
 use Rattle.rightness.specs.Demands.{AcceptedExactly, NoneExactly, OwnPass}
 use Rattle.rightness.proofs.Own.{points-length}
 use Rattle.rightness.proofs.Promised.{accepted-exactly, none-exactly}
 use Rattle.rightness.proofs.Written.{own-pass}
-use Rattle.wexxolin.specs.Calls.{CheckedForC, RoutesWrittenForC}
 
 -- the fields of C's structs, by their names
 abbrev pub checkFields : Approval → Handed Nets

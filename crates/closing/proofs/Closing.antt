@@ -8,9 +8,9 @@ use Rattle.board.specs.Handed.{Handed}
 use Rattle.router.specs.Answers.{Route, Slices, Routed}
 use Rattle.router.specs.Demands.{Exhaustive}
 use Rattle.router.proofs.Demands.{route-exhaustive, route-unpinched}
-use Rattle.told.specs.declared.Found.{Found}
-use Rattle.told.specs.Told.{toldRoute}
-use Rattle.wexxolin.specs.Calls.{RoutedForC}
+use Rattle.routing.specs.declared.Found.{Found}
+use Rattle.routing.specs.Routing.{toldRoute}
+use Rattle.routing.specs.Calls.{RoutedForC}
 use Rattle.closing.specs.Demands.{Given, Numbered, Kept, Theta, Searched, Left, KeepsClear, AnyAngle, fields}
 use Rattle.closing.proofs.Table.{row-first, row-only, row-known, row-bare}
 use Rattle.closing.proofs.Leaving.{kept, as-theta, left}

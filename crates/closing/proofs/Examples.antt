@@ -9,7 +9,7 @@ use lib.ListN.{length, replicate}
 use Rattle.laws.specs.Below.{every}
 use Rattle.board.specs.Board.{Board, board, blocked, vertices}
 use Rattle.board.specs.Handed.{firstBad, boardRows, endRows}
-use Rattle.length.specs.Root.{root, rootIn}
+use Rattle.root.specs.Root.{root, rootIn}
 use Rattle.length.specs.Units.{unitsOf}
 use Rattle.legs.specs.Pinched.{pinched, admitted}
 use Rattle.legs.specs.Sight.{side, positive, negative, someCorner, spans, crossed, cellsFree, rowWall, columnWall, between, edgesOpen, strictlyInside, verticesOpen, sees}

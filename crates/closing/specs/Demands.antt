@@ -16,7 +16,7 @@ use Rattle.theta.specs.Search.{State, search, path}
 use Rattle.problem.specs.Problem.{seesFrom, problem, Unpinched}
 use Rattle.router.specs.Answers.{Route, noRoute, Slices}
 use Rattle.router.specs.Demands.{Joined, Rightly}
-use Rattle.told.specs.declared.Found.{Found}
+use Rattle.routing.specs.declared.Found.{Found}
 
 -- ---- the words of the table
 

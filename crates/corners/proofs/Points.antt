@@ -14,9 +14,9 @@ use Rattle.board.specs.Limits.{largestSide}
 use Rattle.board.specs.Board.{numberOf, columnOf, rowOf}
 use Rattle.board.specs.Handed.{Verdict, passes, refused, sideFits}
 use Rattle.board.proofs.Numbers.{number-back, column-on, row-on}
-use Rattle.packed.specs.Packed.{entries}
+use Rattle.bits.specs.Packed.{entries}
 use Rattle.packed.specs.Answers.{sliceAfter}
-use Rattle.packed.proofs.Entries.{entries-length, entries-at}
+use Rattle.bits.proofs.Entries.{entries-length, entries-at}
 use Rattle.corners.specs.Corners.{columns, rows, hasOff, pointRows, PointsTold}
 
 module _ (path : List ℕ) (width : ℕ) where

@@ -9,7 +9,7 @@ use Rattle.laws.specs.Below.{some}
 use Rattle.board.specs.Limits.{largestSide}
 use Rattle.board.specs.Board.{columnOf, rowOf}
 use Rattle.board.specs.Handed.{Verdict, passes, refused, row, andThen, sideFits}
-use Rattle.packed.specs.Packed.{entries}
+use Rattle.bits.specs.Packed.{entries}
 use Rattle.packed.specs.Answers.{sliceAfter}
 use Rattle.corners.specs.declared.PointsAnswer.{PointsAnswer}
 use Rattle.corners.specs.declared.PointsAnswer.the-variants.{Points, Side, Off, Short}

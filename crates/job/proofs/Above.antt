@@ -21,8 +21,8 @@ use Rattle.job.specs.Answers.{Sides, noSides, handedBoard, boardRow, boa
 use Rattle.faults.specs.Inner.{Accepted}
 use Rattle.refusals.proofs.Refusing.{Numbered, answered}
 use Rattle.faults.proofs.Accepted.{width-fits, height-fits, start-on, goal-on}
-use Rattle.job.proofs.cells.Grid.{cells-length, cells-bits}
-use Rattle.job.proofs.inner.Nets.{net-record-below, net-record-is}
+use Rattle.painting.proofs.Grid.{cells-length, cells-bits}
+use Rattle.netlist.proofs.Nets.{net-record-below, net-record-is}
 use Rattle.faults.proofs.Judging.{job-numbered}
 
 -- ---- an accepted job

@@ -1,30 +1,34 @@
 // Calls for the crates above, whose job has been accepted: each says what it requires.
 ghost use mathlib.Core.Path.{_≡_};
-ghost use Rattle.faults.specs.Inner.{Accepted};
-ghost use Rattle.job.specs.Answers.{handedNet, netRow};
-ghost use Rattle.job.specs.Inner.{netSaid};
+ghost use Rattle.records.specs.Records.{records};
+ghost use Rattle.faults.specs.Inner.{Accepted, progress};
+ghost use Rattle.job.specs.Answers.{handedBoard, BoardRead, handedNet, netRow};
+use crate::BoardAnswer;
 use crate::NetAnswer;
-use kinds::NET;
 use kinds::Record;
-use kinds::inner::record_at;
-use records::RECORD;
-use records::inner::byte_of;
+use netlist::inner::find_net;
+use painting::inner::write_cells;
+use steps::Progress;
 
-// What the net with that index says, or nothing if there is none.
-fn find_net(job: &[u8], index: usize) -> Record
-    ensures { λ r. ⌜ r ≡ netSaid (now (job .entry)) index ⌝ }
+// The board of a job that has been accepted already, of which `whole` is known; nothing is written if the lent slice is short.
+pub fn write_board(job: &[u8], whole: Progress, board: &mut [u8]) -> BoardAnswer
+    requires { ⌜ Accepted (now job) ⌝ }
+    requires { ⌜ whole ≡ progress (now job) (records (now job)) ⌝ }
+    ensures { λ r. ⌜ BoardRead (now (job .entry)) (now (board .entry)) (handedBoard r) (now (board .exit)) ⌝ }
 {
-    let mut before = 0;
-    for i in 0..job.len() / RECORD {
-        if byte_of(job, i, 0) != NET {
-            continue;
-        }
-        if before == index {
-            return record_at(job, i);
-        }
-        before += 1;
+    let width = whole.width;
+    let height = whole.height;
+    let nets = whole.nets;
+    let cells = width * height;
+    if board.len() < cells {
+        return BoardAnswer::Short;
     }
-    Record::Unknown
+    write_cells(job, width, cells, board);
+    BoardAnswer::Board {
+        width,
+        height,
+        nets,
+    }
 }
 
 // The net with that index, counted from 0, of a job that has been accepted already.

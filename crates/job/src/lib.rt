@@ -1,17 +1,12 @@
 // The job reader: the board and the nets of a job that the check accepts are taken out.
 ghost use mathlib.Core.Path.{_≡_};
-ghost use Rattle.records.specs.Records.{records};
-ghost use Rattle.faults.specs.Inner.{Accepted, progress};
 ghost use Rattle.job.specs.Answers.{handedBoard, handedNet, BoardRead, netRow};
-use cells::fill;
-use cells::paint_keepouts;
 use faults::inner::check_job;
 use inner::net_at;
+use inner::write_board;
 use refusals::JobRefusal;
-use steps::Progress;
 use steps::Step;
 
-mod cells;
 pub mod inner;
 
 // What a board read answers: the sides and how many nets there are, or 10 to 18 or 23, or 19.
@@ -45,28 +40,6 @@ pub fn read_board(job: &[u8], board: &mut [u8]) -> BoardAnswer
     match check_job(job) {
         Step::Refused(why) => BoardAnswer::Refused(why),
         Step::Next(whole) => write_board(job, whole, board),
-    }
-}
-
-// The board of an accepted job: free cells, then each keepout; nothing if the lent slice is short.
-fn write_board(job: &[u8], whole: Progress, board: &mut [u8]) -> BoardAnswer
-    requires { ⌜ Accepted (now job) ⌝ }
-    requires { ⌜ whole ≡ progress (now job) (records (now job)) ⌝ }
-    ensures { λ r. ⌜ BoardRead (now (job .entry)) (now (board .entry)) (handedBoard r) (now (board .exit)) ⌝ }
-{
-    let width = whole.width;
-    let height = whole.height;
-    let nets = whole.nets;
-    let cells = width * height;
-    if board.len() < cells {
-        return BoardAnswer::Short;
-    }
-    fill(board, 0, cells, 0);
-    paint_keepouts(job, width, board);
-    BoardAnswer::Board {
-        width,
-        height,
-        nets,
     }
 }
 

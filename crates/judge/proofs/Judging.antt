@@ -1,7 +1,7 @@
 -- What the functions of this crate hand on: a net taken out of the job, a net judged, a net measured. Assumes nothing.
-use Prim.Native.Nat.{ℕ, zero, suc, _+_, _-_, _≤_, _<_}
-use mathlib.Core.Path.{_≡_, refl, sym, ap, ap₂, _∙_}
-use mathlib.Core.Bool.{Bool, true, false, _&&_, true≢false}
+use Prim.Native.Nat.{ℕ, _+_, _-_, _≤_, _<_}
+use mathlib.Core.Path.{_≡_, refl, sym, ap, _∙_}
+use mathlib.Core.Bool.{true, false, _&&_, true≢false}
 use mathlib.Core.List.{List, [], _∷_, _++_}
 use native.Mathlib.Omega.{arith}
 use lib.Dec.{leb}
@@ -9,27 +9,24 @@ use lib.ListN.{length, drop, set}
 use borrow.Author.Tests.{leb-true, lt-leb, lt-ltb, le-ltb}
 use Rattle.laws.proofs.Tests.{and-left, and-right}
 use Rattle.laws.proofs.Below.{indexed-below, indexed-does-pass}
+use Rattle.board.specs.Limits.{largestSide}
 use Rattle.board.specs.Board.{Board, board}
-use Rattle.board.specs.Inner.{Sound, OnBoard}
+use Rattle.board.specs.Inner.{OnBoard}
 use Rattle.board.specs.Handed.{passes, refused, Handed, answer, judged}
+use Rattle.board.proofs.Rows.{side-le}
 use Rattle.records.specs.Records.{records, inOrder}
 use Rattle.records.proofs.InOrder.{each-passes, one-more, first-refused}
 use Rattle.refusals.specs.declared.JobRefusal.{JobRefusal}
 use Rattle.refusals.specs.Refusals.{refusalRow}
 use Rattle.refusals.proofs.Refusing.{listed}
-use Rattle.theta.specs.Search.{Problem, State, search}
-use Rattle.theta.specs.Lent.{state, Searched}
-use Rattle.theta.specs.Demands as theta-demands
-use Rattle.problem.specs.Problem.{problem}
-use Rattle.problem.proofs.Theorems.{board-work}
-use Rattle.kinds.specs.Job.{isNet, Net, nets, netRecord, width, height, boardCells}
+use Rattle.kinds.specs.Job.{isNet, Net, nets, netRecord, width, height}
 use Rattle.faults.specs.Inner.{Accepted}
-use Rattle.faults.proofs.Accepted.{start-on, goal-on}
+use Rattle.faults.proofs.Accepted.{width-fits, height-fits, start-on, goal-on}
 use Rattle.job.specs.declared.NetAnswer.{NetAnswer}
 use Rattle.job.specs.Answers.{noNet, handedNet}
 use Rattle.job.specs.Answers.{netRow as netHanded}
-use Rattle.packed.specs.Packed.{entries}
-use Rattle.packed.proofs.Entries.{entries-length, written-next}
+use Rattle.bits.specs.Packed.{entries}
+use Rattle.bits.proofs.Entries.{entries-length, written-next}
 use Rattle.tracks.specs.Tracks.{Point, Route, routesIn}
 use Rattle.tracks.specs.Answers.{laid}
 use Rattle.bureau.specs.declared.Wanted.{Wanted}
@@ -38,12 +35,12 @@ use Rattle.bureau.specs.declared.CheckAnswer.{CheckAnswer}
 use Rattle.bureau.specs.declared.CheckAnswer.the-variants as said
 use Rattle.bureau.specs.declared.Fault.{Fault}
 use Rattle.bureau.specs.declared.Fault.the-variants as fault
-use Rattle.bureau.specs.Paths.{pointAt, problemOf, noneRow, netRows, pathRows, total, unitsAlong}
+use Rattle.bureau.specs.Paths.{pointAt, netRows, pathRows, unitsAlong}
 use Rattle.bureau.specs.Nets.{jobBoard, jobNet, pointsFor, netNumbers, oddNet, oddRow, netRow, netsRows, netUnits, netLegs, unitsOf, legsOf}
-use Rattle.bureau.specs.Answers.{noNets, handedCheck, isJobs, Searching, searching, afterSearch, afterNet, afterNets}
-use Rattle.bureau.specs.Inner.{netFor, Room, EndsOf, faultRow, isNothing, OnJob, NetJudged, NetsJudged, NetsChecked, PointsOn, Passed, Measured}
+use Rattle.bureau.specs.Answers.{noNets, handedCheck, isJobs, Searching, searching, afterNet, afterNets}
+use Rattle.bureau.specs.Inner.{netFor, Room, EndsOf, faultRow, isNothing, OnJob, NetJudged, NetsJudged, NetsChecked, PointsSmall, AllRight, Measured}
 use Rattle.bureau.proofs.Answering.{one-judged, no-more, net-refused, nets-right}
-use Rattle.points.proofs.Same.{net-same, units-same, path-on}
+use Rattle.points.proofs.Same.{net-same, path-on}
 
 -- ---- a net of the job
 
@@ -71,26 +68,7 @@ module _ {job : List ℕ} (a : Accepted job) (index : ℕ) (l : index < nets job
 pub no-values : (why : JobRefusal) → noNet ≡ judged noNet (refusalRow why) .values
 no-values why = rw (listed why .row-is)
 
--- ---- no path is claimed: the search decides
-
-module _ (b : Board) (net : Net) (S : OnBoard b (net .sx) (net .sy)) {w : Searching} {after : State} {found : Bool}
-    (F : Searched (problemOf b net) (state (w .g) (w .parents) (w .marks) (w .legs) 0 0) after found) where
-  left-is : searching (after .g) (after .parent) (after .mark) (after .legs) ≡ afterSearch (problemOf b net) w
-  left-is =
-      let W = board-work b (net .sx) (net .sy) (net .gx) (net .gy) S in
-      let g = F .g-is in
-      let p = F .parent-is in
-      let m = F .mark-is in
-      let l = F .legs-is in
-      rw (g, p, m, l, W .g-size, W .parent-size, W .mark-size, W .legs-size)
-
-  pub none-refused : found ≡ true → NetJudged b net [] w (searching (after .g) (after .parent) (after .mark) (after .legs)) fault.Path
-  unfolding noneRow
-  none-refused e = record { row-is = rw (sym (F .found-is) ∙ e); work-is = left-is }
-
-  pub none-passes : found ≡ false → NetJudged b net [] w (searching (after .g) (after .parent) (after .mark) (after .legs)) fault.Nothing
-  unfolding noneRow
-  none-passes e = record { row-is = rw (sym (F .found-is) ∙ e); work-is = left-is }
+-- ---- a net is judged
 
 -- where no points are given
 pub as-none : {b : Board} {net : Net} {ps : List Point} {w w′ : Searching} {r : Fault} → ps ≡ [] → NetJudged b net [] w w′ r → NetJudged b net ps w w′ r
@@ -102,25 +80,6 @@ pub points-judged : (b : Board) (net : Net) (ps : List Point) (w : Searching) (n
     → ((k : ℕ) → k < n → pointAt ps k ≡ q k) → faultRow (net .number) r ≡ pathRows b net n q → NetJudged b net ps w w r
 points-judged b net [] w n q l e h f = absurd (omega arith)
 points-judged b net (p ∷ ps) w n q l e h f = record { row-is = f ∙ sym (net-same b net (p ∷ ps) n q l e h); work-is = refl }
-
--- ---- a net that is right is measured
-
-module _ {b : Board} {ps : List Point} (P : Passed b ps) (n : ℕ) (q : ℕ → Point) (l : 0 < n) (e : length ps ≡ n)
-    (h : (k : ℕ) → k < n → pointAt ps k ≡ q k) where
-  pub measured-on : PointsOn b n q
-  measured-on = path-on b (P .net) n q (sym (net-same b (P .net) ps n q l e h) ∙ P .right)
-
-  pub measured : (index : ℕ) (units legCounts : List ℕ) {u : ℕ} → u ≡ unitsAlong n q
-      → Measured ps index units legCounts (set units index u) (set legCounts index (n - 1))
-  measured index units legCounts f = record {
-    units-are = ap (λ (v : ℕ). set units index v) (f ∙ sym (units-same b n (pointAt ps) q h) ∙ ap (λ (m : ℕ). unitsAlong m (pointAt ps)) (sym e));
-    counts-are = ap (λ (m : ℕ). set legCounts index (m - 1)) (sym e);
-  }
-
-pub measured-none : {ps : List Point} (index : ℕ) (units legCounts : List ℕ) → ps ≡ []
-    → Measured ps index units legCounts (set units index 0) (set legCounts index 0)
-unfolding unitsAlong total
-measured-none index units legCounts e = record { units-are = rw e; counts-are = rw e }
 
 -- ---- net after net
 
@@ -193,13 +152,21 @@ judged-done {job} {rs} {w₀} e p s = record { row-is = sym (rw s at p); work-is
 
 -- ---- the results, net after net
 
-pub net-passed : (job : List ℕ) (rs : List Route) {b : Board} {number : ℕ} (index : ℕ) → b ≡ jobBoard job → number ≡ jobNet job index .number
-    → netsRows job rs ≡ passes → index < nets job → Passed b (pointsFor rs number)
+-- points that are right have coordinates of their board
+rows-small : (b : Board) → b .width ≤ largestSide → b .height ≤ largestSide → (net : Net) (ps : List Point) → netRows b net ps ≡ passes
+    → PointsSmall (length ps) (pointAt ps)
+rows-small b w h net [] e = record { small = λ k l. absurd (omega arith) }
+rows-small b w h net (p ∷ ps) e =
+    let P = path-on b net (length (p ∷ ps)) (pointAt (p ∷ ps)) e in
+    record { small = λ k l. (omega (arith, P .on k l .x-on), omega (arith, P .on k l .y-on)) }
+
+pub net-small : {job file : List ℕ} {many number : ℕ} (index : ℕ) → AllRight job file many → number ≡ jobNet job index .number → index < nets job
+    → PointsSmall (length (pointsFor (routesIn file) number)) (pointAt (pointsFor (routesIn file) number))
 unfolding netsRows
-net-passed job rs index e f p l = record {
-  net = jobNet job index;
-  right = rw (e, f) (each-passes (netRow job rs) (nets job) p index l);
-}
+net-small {job} {file} index A f l =
+    rw f
+    (rows-small (jobBoard job) (side-le (width job) (width-fits (A .accepted))) (side-le (height job) (height-fits (A .accepted))) (jobNet job index)
+    (pointsFor (routesIn file) (jobNet job index .number)) (each-passes (netRow job (routesIn file)) (nets job) (A .right) index l))
 
 pub result-next : (f : ℕ → ℕ) (n : ℕ) (before : List ℕ) {now after : List ℕ} {a : ℕ} → now ≡ entries n f ++ drop n before → after ≡ set now n a → a ≡ f n
     → n < length before → after ≡ entries (n + 1) f ++ drop (n + 1) before

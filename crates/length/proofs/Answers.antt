@@ -1,42 +1,24 @@
--- What the calls hand back, by their rows; and that an f64 holds every length handed back. Assumes nothing.
+-- Every length that a call hands back is a whole number that an f64 holds. Assumes nothing.
 use mathlib.Core.Path.{_≡_, refl}
-use mathlib.Core.Bool.{true, false, _&&_}
+use mathlib.Core.Bool.{false}
 use Prim.Native.Nat.{ℕ, _^_, _<_}
 use lib.IntN.{ℤ, natAbs}
-use lib.Dec.{eqb, lit<}
+use lib.Dec.{lit<}
 use lib.Ieee.Exact.{HasValue}
-use Rattle.board.specs.Handed.{Verdict, passes, refused, Handed, answer, unless, judged, numberIn}
+use Rattle.board.specs.Handed.{Verdict, passes, refused, Handed, unless}
+use Rattle.spans.specs.Legs.{step, differenceRows, vertexRows}
+use Rattle.spans.proofs.Legs.{step-small, differences-small, vertices-on}
 use Rattle.length.specs.Units.{unitsPerCell}
-use Rattle.length.specs.Legs.{step, differenceRows, vertexRows}
 use Rattle.length.specs.Floats.{inCells}
-use Rattle.length.specs.Answers.{Long, noLength, lengthRow, lengthBetweenRow, noDirection, directionOf, aimRow}
+use Rattle.length.specs.Answers.{Long, noLength, lengthRow, lengthBetweenRow}
 use Rattle.length.proofs.Units.{units-fit}
 use Rattle.length.proofs.Floats.{cells-exact}
-use Rattle.length.proofs.Legs.{step-small, differences-small, vertices-on}
 
 module _ {Values : Type 0} (none : Values) (rest : Handed Values) where
-  -- what hands 0 back was given by no refusal
-  pub given : (v : Verdict) → unless none v rest .number ≡ 0 → numberIn v ≡ 0
-  given passes e = refl
-  given (refused number place second) e = e
-
   -- what holds of no values, and of the rest where the rows pass, holds of the values handed back
   held : (P : Values → Type 0) (v : Verdict) → P none → (v ≡ passes → P (rest .values)) → P (unless none v rest .values)
   held P passes p f = f refl
   held P (refused number place second) p f = p
-
--- ---- a direction, case by case
-
-module _ (dx dy : ℤ) where
-  pub aim-equal : (eqb (natAbs dx) 0 && eqb (natAbs dy) 0) ≡ true → judged noDirection (refused 9 0 0) ≡ aimRow dx dy
-  unfolding aimRow
-  aim-equal e = rw e
-
-  pub aim-of : (eqb (natAbs dx) 0 && eqb (natAbs dy) 0) ≡ false → answer (directionOf dx dy) ≡ aimRow dx dy
-  unfolding aimRow
-  aim-of e = rw e
-
--- ---- every length that a call hands back is a whole number that an f64 holds
 
 pub length-exact : (dx dy : ℤ) → lengthRow dx dy .values .units < 2 ^ 53
 unfolding lengthRow

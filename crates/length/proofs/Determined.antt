@@ -8,9 +8,7 @@ use Rattle.board.specs.declared.Refusal.the-variants.{Side, Count, Byte, First,
 use Rattle.board.proofs.Determined.{refusalOf}
 use Rattle.length.specs.declared.Measured.{Measured}
 use Rattle.length.specs.declared.Measured.the-variants as measured
-use Rattle.length.specs.declared.Aimed.{Aimed}
-use Rattle.length.specs.declared.Aimed.the-variants as aimed
-use Rattle.length.specs.Answers.{Long, Toward, handedLength, handedDirection}
+use Rattle.length.specs.Answers.{Long, handedLength}
 
 -- the answer that hands this back
 lengthFrom : Handed Long → Measured
@@ -28,22 +26,3 @@ length-back (measured.Refused Second) = refl
 -- of `Length::of` and `Length::between`
 pub length-determined : {r s : Measured} {h : Handed Long} → handedLength r ≡ h → handedLength s ≡ h → r ≡ s
 length-determined = undone handedLength lengthFrom length-back
-
-directionFrom : Handed Toward → Aimed
-directionFrom h =
-    cond (eqb (h .number) 0) (aimed.Of (record { x = h .values .x; y = h .values .y }))
-    (cond (eqb (h .number) 9) aimed.Equal (aimed.Refused (refusalOf (h .number) (h .place))))
-
-direction-back : (r : Aimed) → directionFrom (handedDirection r) ≡ r
-unfolding directionFrom
-direction-back (aimed.Of d) = refl
-direction-back (aimed.Refused Side) = refl
-direction-back (aimed.Refused Count) = refl
-direction-back (aimed.Refused (Byte at)) = refl
-direction-back (aimed.Refused First) = refl
-direction-back (aimed.Refused Second) = refl
-direction-back aimed.Equal = refl
-
--- of `Direction::of` and `Direction::between`
-pub direction-determined : {r s : Aimed} {h : Handed Toward} → handedDirection r ≡ h → handedDirection s ≡ h → r ≡ s
-direction-determined = undone handedDirection directionFrom direction-back

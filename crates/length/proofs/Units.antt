@@ -7,9 +7,9 @@ use native.Mathlib.Omega.{arith}
 use lib.Dec.{eqb}
 use lib.IntN.{ℤ, pos, natAbs}
 use Rattle.board.specs.Limits.{largestSide}
-use Rattle.length.specs.Root.{Largest, Bounds}
+use Rattle.root.specs.Root.{Largest, Bounds}
 use Rattle.length.specs.Units.{unitsPerCell, unitsOf, square, units}
-use Rattle.length.proofs.Root.{next, below, bounds-one, root-bounds, root-largest}
+use Rattle.root.proofs.Root.{next, below, bounds-one, root-bounds, root-largest}
 
 pub units-largest : (s : ℕ) → Largest (s * 2 ^ 40) (unitsOf s)
 unfolding unitsOf

@@ -1,6 +1,3 @@
-pub mod Root
 pub mod Units
-pub mod Legs
 pub mod Floats
 pub mod Answers
-pub mod Directions

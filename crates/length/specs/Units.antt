@@ -1,7 +1,7 @@
 -- The length of a leg in units, as document 01 has it.
 use Prim.Native.Nat.{ℕ, _+_, _*_, _^_}
 use lib.IntN.{ℤ, natAbs}
-use Rattle.length.specs.Root.{root}
+use Rattle.root.specs.Root.{root}
 
 -- one cell, in units
 abbrev pub unitsPerCell : ℕ

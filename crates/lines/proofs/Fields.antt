@@ -8,7 +8,7 @@ use lib.ListN.{length, take, drop, getD, length-append, take-append-drop}
 use lib.Seq.{take-suc}
 use Rattle.lines.specs.Lines.{decimal, vertexField, vertexFields, spaced, netLine, noneLine, refusedLine, refusedTwiceLine}
 use Rattle.lines.specs.Lines.{net, none, pathWord, expanded, testsWord, atWord, refused}
-use Rattle.lines.specs.Inner.{Placed, numbered, pathEnd}
+use Rattle.lines.specs.Inner.{Two, Three, Placed, numbered, pathEnd}
 
 -- one more entry of a list
 take-more : (l : List ℕ) (i : ℕ) → i < length l → take (i + 1) l ≡ take i l ++ (getD l i 0 ∷ [])
@@ -95,13 +95,21 @@ three a b c z = simp (append-assoc, append-nil)
 two : (a b z : List ℕ) → (a ++ (b ++ [])) ++ z ≡ (a ++ b) ++ z
 two a b z = simp (append-assoc, append-nil)
 
+-- one piece after another, and the end of the line of a path
+pub joined : (xs ys : List ℕ) → Two (xs ++ ys) xs ys
+joined xs ys = record { parts = refl }
+
+pub end-parts : (width : ℕ) (path : List ℕ) → Three (pathEnd width path) (32 ∷ atWord) (spaced (vertexFields width path)) (10 ∷ [])
+end-parts width path = record { parts = refl }
+
 module _ (number units expansions tests width : ℕ) (path : List ℕ) where
-  pub net-parts : netLine number units expansions tests width path
-      ≡ (first net number ++ later pathWord units) ++ ((later expanded expansions ++ later testsWord tests) ++ pathEnd width path)
+  pub net-parts : Three (netLine number units expansions tests width path) (first net number ++ later pathWord units)
+      (later expanded expansions ++ later testsWord tests) (pathEnd width path)
   unfolding netLine
-  net-parts =
-      five (first net number) (later pathWord units) (later expanded expansions) (later testsWord tests) (32 ∷ atWord)
-      (bytes width path) (10 ∷ [])
+  net-parts = record {
+    parts = five (first net number) (later pathWord units) (later expanded expansions) (later testsWord tests) (32 ∷ atWord)
+        (bytes width path) (10 ∷ []);
+  }
 
   pub net-count : length (netLine number units expansions tests width path)
       ≡ 31 + (length (decimal number) + length (decimal units) + (length (decimal expansions) + length (decimal tests)))
@@ -110,10 +118,11 @@ module _ (number units expansions tests width : ℕ) (path : List ℕ) where
   net-count = simp length-append (omega arith)
 
 module _ (number expansions tests : ℕ) where
-  pub none-parts : noneLine number expansions tests
-      ≡ first net number ++ ((((32 ∷ none) ++ later expanded expansions) ++ later testsWord tests) ++ (10 ∷ []))
+  pub none-parts : Three (noneLine number expansions tests) (first net number)
+      (((32 ∷ none) ++ later expanded expansions) ++ later testsWord tests) (10 ∷ [])
   unfolding noneLine
-  none-parts = middle (first net number) ((32 ∷ none) ++ later expanded expansions) (later testsWord tests) (10 ∷ [])
+  none-parts =
+      record { parts = middle (first net number) ((32 ∷ none) ++ later expanded expansions) (later testsWord tests) (10 ∷ []) }
 
   pub none-count : length (noneLine number expansions tests)
       ≡ 27 + length (decimal number) + (length (decimal expansions) + length (decimal tests))
@@ -121,20 +130,20 @@ module _ (number expansions tests : ℕ) where
   none-count = simp length-append (omega arith)
 
 module _ (number place : ℕ) where
-  pub refused-parts : refusedLine number place
-      ≡ (first refused number ++ later atWord place) ++ (10 ∷ [])
+  pub refused-parts : Two (refusedLine number place) (first refused number ++ later atWord place) (10 ∷ [])
   unfolding refusedLine
-  refused-parts = two (first refused number) (later atWord place) (10 ∷ [])
+  refused-parts = record { parts = two (first refused number) (later atWord place) (10 ∷ []) }
 
   pub refused-count : length (refusedLine number place) ≡ 13 + (length (decimal number) + length (decimal place))
   unfolding refusedLine
   refused-count = simp length-append (omega arith)
 
 module _ (number place second : ℕ) where
-  pub refused-twice-parts : refusedTwiceLine number place second
-      ≡ (first refused number ++ later atWord place) ++ (numbered (32 ∷ []) second ++ (10 ∷ []))
+  pub refused-twice-parts : Three (refusedTwiceLine number place second) (first refused number ++ later atWord place)
+      (numbered (32 ∷ []) second) (10 ∷ [])
   unfolding refusedTwiceLine
-  refused-twice-parts = three (first refused number) (later atWord place) (numbered (32 ∷ []) second) (10 ∷ [])
+  refused-twice-parts =
+      record { parts = three (first refused number) (later atWord place) (numbered (32 ∷ []) second) (10 ∷ []) }
 
   pub refused-twice-count : length (refusedTwiceLine number place second)
       ≡ 14 + (length (decimal number) + length (decimal place)) + length (decimal second)

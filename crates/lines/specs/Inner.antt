@@ -19,6 +19,13 @@ pub record Put (bytes before : List ℕ) (at next : ℕ) (after : List ℕ) : Ty
 pub record Room (bytes before : List ℕ) (at : ℕ) : Type 0 where
   pub room : at + length bytes ≤ length before
 
+-- a whole that two pieces make up, and three
+pub record Two (whole xs ys : List ℕ) : Type 0 where
+  pub parts : whole ≡ xs ++ ys
+
+pub record Three (whole xs ys zs : List ℕ) : Type 0 where
+  pub parts : whole ≡ xs ++ (ys ++ zs)
+
 -- some bytes were counted, and are few
 pub record Counted (bytes : List ℕ) (most r : ℕ) : Type 0 where
   pub count : r ≡ length bytes

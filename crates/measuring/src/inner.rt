@@ -1,66 +1,30 @@
-// Calls for the crate above: what C gets of each answer that a call gives.
+// The calls for the crate above: length for C.
 ghost use mathlib.Core.Path.{_≡_};
 ghost use Prim.Native.Nat.{_^_, _<_};
-ghost use Rattle.board.specs.Handed.{answer, refused, judged};
-ghost use Rattle.length.specs.Answers.{noLength, noDirection, handedLength, handedDirection};
-ghost use Rattle.sight.specs.Answers.{seenAs, unseen, handedSight};
-ghost use Rattle.measuring.specs.Measuring.{toldSight, toldLength, toldDirection};
+ghost use Rattle.board.specs.Handed.{refused, judged};
+ghost use Rattle.length.specs.Answers.{noLength, handedLength, lengthRow, lengthBetweenRow};
+ghost use Rattle.measuring.specs.Measuring.{toldLength};
 use crate::Long;
-use crate::Seen;
-use crate::Toward;
-use length::Aimed;
+use length::Length;
 use length::Measured;
 use length::inner::exact_cells;
-use sight::Answer;
 
-// What C gets of an answer on sight.
-pub fn tell_sight(answer: Answer) -> Seen
-    ensures { λ r. ⌜ r ≡ toldSight (handedSight answer) ⌝ }
+// The length of a leg by its differences.
+pub fn length_for_c(dx: i32, dy: i32) -> Long
+    ensures { λ r. ⌜ r ≡ toldLength (lengthRow dx dy) ⌝ }
 {
-    match answer {
-        Answer::Clear => tell_seen(1, 0, 0, 0, 0, 0),
-        Answer::Cell(x, y) => tell_seen(0, 1, x as u64, y as u64, 0, 0),
-        Answer::Edge(x, y, x2, y2) => tell_seen(0, 2, x as u64, y as u64, x2 as u64, y2 as u64),
-        Answer::Vertex(x, y) => tell_seen(0, 3, x as u64, y as u64, 0, 0),
-        Answer::Refused(why) => refuse_sight(why.number(), why.place() as u64),
-    }
+    tell_length(Length::of(dx, dy))
 }
 
-// What C gets of an accepted request.
-fn tell_seen(sight: u64, kind: u64, x: u64, y: u64, x2: u64, y2: u64) -> Seen
-    ensures { λ r. ⌜ r ≡ toldSight (answer (seenAs sight kind x y x2 y2)) ⌝ }
+// The length of a leg by its vertices.
+pub fn length_between_for_c(ax: usize, ay: usize, bx: usize, by: usize) -> Long
+    ensures { λ r. ⌜ r ≡ toldLength (lengthBetweenRow ax ay bx by) ⌝ }
 {
-    Seen {
-        number: 0,
-        place: 0,
-        second: 0,
-        sight,
-        kind,
-        x,
-        y,
-        x2,
-        y2,
-    }
-}
-
-fn refuse_sight(number: u64, place: u64) -> Seen
-    ensures { λ r. ⌜ r ≡ toldSight (judged unseen (refused number place 0)) ⌝ }
-{
-    Seen {
-        number,
-        place,
-        second: 0,
-        sight: 0,
-        kind: 0,
-        x: 0,
-        y: 0,
-        x2: 0,
-        y2: 0,
-    }
+    tell_length(Length::between(ax, ay, bx, by))
 }
 
 // What C gets of a length; the cast of its units loses nothing.
-pub fn tell_length(measured: Measured) -> Long
+fn tell_length(measured: Measured) -> Long
     requires { ⌜ handedLength measured .values .units < 2 ^ 53 ⌝ }
     ensures { λ r. ⌜ r ≡ toldLength (handedLength measured) ⌝ }
 {
@@ -85,34 +49,5 @@ fn refuse_length(number: u64, place: u64) -> Long
         second: 0,
         units: 0,
         cells: exact_cells(0),
-    }
-}
-
-// What C gets of a direction.
-pub fn tell_direction(aimed: Aimed) -> Toward
-    ensures { λ r. ⌜ r ≡ toldDirection (handedDirection aimed) ⌝ }
-{
-    match aimed {
-        Aimed::Of(d) => Toward {
-            number: 0,
-            place: 0,
-            second: 0,
-            x: d.x,
-            y: d.y,
-        },
-        Aimed::Refused(why) => refuse_direction(why.number(), why.place() as u64),
-        Aimed::Equal => refuse_direction(9, 0),
-    }
-}
-
-fn refuse_direction(number: u64, place: u64) -> Toward
-    ensures { λ r. ⌜ r ≡ toldDirection (judged noDirection (refused number place 0)) ⌝ }
-{
-    Toward {
-        number,
-        place,
-        second: 0,
-        x: 0.0,
-        y: 0.0,
     }
 }

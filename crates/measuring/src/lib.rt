@@ -1,20 +1,5 @@
-// What C gets of sight, length and direction, as include/wexxolin.h declares it.
+// What C gets of length, as include/wexxolin.h declares it.
 pub mod inner;
-
-// Does a leg have sight, 1 or 0, and what stops it first: nothing (kind 0), a cell (1), an edge, its nearer vertex first (2), or a
-// vertex (3).
-#[repr(C)]
-pub struct Seen {
-    pub number: u64,
-    pub place: u64,
-    pub second: u64,
-    pub sight: u64,
-    pub kind: u64,
-    pub x: u64,
-    pub y: u64,
-    pub x2: u64,
-    pub y2: u64,
-}
 
 // The length of a leg, in units and in cells.
 #[repr(C)]
@@ -24,14 +9,4 @@ pub struct Long {
     pub second: u64,
     pub units: u64,
     pub cells: f64,
-}
-
-// The direction of a leg.
-#[repr(C)]
-pub struct Toward {
-    pub number: u64,
-    pub place: u64,
-    pub second: u64,
-    pub x: f64,
-    pub y: f64,
 }

@@ -12,7 +12,7 @@ use borrow.Author.Tests.{ne-eqb, lt-ltb, le-leb}
 use Rattle.laws.proofs.Tests.{and-both, and-false, false-of}
 use Rattle.board.specs.Board.{Board, vertices, numberOf, columnOf, rowOf, column, row}
 use Rattle.board.proofs.Numbers.{number-below, column-number, row-number, number-back, column-on}
-use Rattle.length.specs.Legs.{step}
+use Rattle.spans.specs.Legs.{step}
 use Rattle.length.specs.Units.{units}
 use Rattle.legs.specs.Leg.{far}
 use Rattle.legs.specs.Sight.{sees}

@@ -12,12 +12,12 @@ use lib.Seq.{getD-set-same, getD-set-other}
 use borrow.Author.Tests.{eqb-true, eq-eqb, ne-eqb}
 use Rattle.board.specs.Board.{numberOf}
 use Rattle.board.proofs.Numbers.{number-below}
-use Rattle.length.specs.Legs.{step}
+use Rattle.spans.specs.Legs.{step}
 use Rattle.length.specs.Units.{units}
 use Rattle.reach.specs.Turns.{at}
 use Rattle.theta.specs.Order.{Rank, ranked, sooner, least}
 use Rattle.theta.specs.Lent.{Better}
-use Rattle.tournament.specs.Ranks.{seen, numbers}
+use Rattle.ranks.specs.Ranks.{seen, numbers}
 use Rattle.tournament.specs.Contest.{noKey, WellRanked}
 use Rattle.tournament.specs.Tournament.{Else, Opened}
 use Rattle.tournament.specs.Nodes.{Entered, Renewed}

@@ -10,13 +10,13 @@ use borrow.Author.Tests.{eqb-true, eq-eqb, ne-eqb}
 use Rattle.board.specs.Limits.{largestSide, mostVertices}
 use Rattle.board.specs.Board.{numberOf, columnOf, rowOf}
 use Rattle.board.proofs.Numbers.{column-number, row-number, vertices-few, column-on, row-on}
-use Rattle.length.specs.Legs.{step}
+use Rattle.spans.specs.Legs.{step}
 use Rattle.length.specs.Units.{units}
 use Rattle.length.proofs.Units.{units-fit}
-use Rattle.length.proofs.Legs.{step-size}
+use Rattle.spans.proofs.Legs.{step-size}
 use Rattle.reach.specs.Turns.{at}
 use Rattle.theta.specs.Order.{ranked, sooner}
-use Rattle.tournament.specs.Ranks.{seen, numbers}
+use Rattle.ranks.specs.Ranks.{seen, numbers}
 use Rattle.tournament.specs.Contest.{noKey, WellRanked, Leads, Between}
 use Rattle.tournament.specs.Tournament.{Shown}
 use Rattle.open.specs.Groups.{groupStart, groupEnd}

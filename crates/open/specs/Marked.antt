@@ -5,12 +5,12 @@ use Prim.Native.Nat.{ℕ, _+_, _*_, _^_, _≤_, _<_}
 use lib.ListN.{length, set}
 use Rattle.board.specs.Limits.{largestSide}
 use Rattle.board.specs.Board.{numberOf, columnOf, rowOf}
-use Rattle.length.specs.Legs.{step}
+use Rattle.spans.specs.Legs.{step}
 use Rattle.length.specs.Units.{units}
 use Rattle.reach.specs.Turns.{at}
 use Rattle.theta.specs.Order.{Contest, contest}
 use Rattle.theta.specs.Lent.{Better}
-use Rattle.tournament.specs.Ranks.{numbers}
+use Rattle.ranks.specs.Ranks.{numbers}
 use Rattle.tournament.specs.Contest.{noKey, Leads}
 use Rattle.tournament.specs.Tournament.{Tournament, ofLeaf}
 use Rattle.tournament.specs.Nodes.{Seated}

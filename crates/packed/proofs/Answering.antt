@@ -1,12 +1,11 @@
--- Which row a request gets, what an accepted one is known to be, and what a lent slice holds after each. Assumes nothing.
+-- What accepted cells are known to be, what the count hands back, and what a lent slice holds after each. Assumes nothing.
 use Prim.Native.Nat.{ℕ, _*_, _≤_, _<_}
 use mathlib.Core.Path.{_≡_, refl, sym, ap, _∙_}
-use mathlib.Core.Bool.{Bool, true, false, not, _&&_}
+use mathlib.Core.Bool.{Bool, true, not, _&&_}
 use mathlib.Core.List.{List, _++_}
 use lib.Dec.{ltb, eqb}
 use lib.ListN.{length, drop}
-use borrow.Author.Tests.{not-false, ltb-false, eqb-true, lt-ltb, le-ltb, eq-eqb, ne-eqb}
-use Rattle.laws.proofs.Tests.{and-left, and-right, and-false}
+use borrow.Author.Tests.{not-false, ltb-false, lt-ltb, le-ltb}
 use Rattle.board.specs.Board.{Board}
 use Rattle.board.specs.Handed.{Verdict, passes, refused, row, andThen, sideFits}
 use Rattle.board.specs.Handed.{sideRow, firstBad, cellRows, boardRows, refusalRow}
@@ -14,66 +13,16 @@ use Rattle.board.specs.declared.Refusal.{Refusal}
 use Rattle.board.specs.declared.Refusal.the-variants as board-refusal
 use Rattle.board.proofs.Bytes.{bits-all}
 use Rattle.board.proofs.Verdicts.{no-pass, row-passes, both-pass}
-use Rattle.board.proofs.Rows.{side-least, side-le, board-sound}
-use Rattle.packed.specs.declared.PackedRefusal.{PackedRefusal}
-use Rattle.packed.specs.declared.PackedRefusal.the-variants.{Side, Length, Filling}
+use Rattle.board.proofs.Rows.{board-sound}
+use Rattle.bits.specs.Packed.{blockedIn}
+use Rattle.bits.specs.Inner.{Sides, Bits}
+use Rattle.filling.specs.declared.PackedRefusal.{PackedRefusal}
+use Rattle.filling.specs.declared.PackedRefusal.the-variants.{Side, Length, Filling}
+use Rattle.filling.specs.Filling.{packedRows, packedRow}
 use Rattle.packed.specs.declared.CountAnswer.the-variants as counting
-use Rattle.packed.specs.Packed.{packedBytes, firstFilling, blockedIn}
-use Rattle.packed.specs.Answers.{packedRows, packedRow, sliceAfter, Wrote, handedCount, countRow}
-use Rattle.packed.specs.Inner.{Sides, Sized, Bits}
+use Rattle.packed.specs.Answers.{sliceAfter, Wrote, handedCount, countRow}
 
--- ---- the rows 1, 29 and 30, case by case
-
-module _ (packed : List ℕ) (w h : ℕ) where
-  pub rows-width : sideFits w ≡ false → packedRows packed w h ≡ refused 1 0 0
-  unfolding packedRows
-  rows-width e = rw e
-
-  pub rows-height : sideFits h ≡ false → packedRows packed w h ≡ refused 1 0 0
-  unfolding packedRows
-  rows-height e = rw (and-false (sideFits w) e)
-
-  -- both sides fit
-  module _ (s : (sideFits w && sideFits h) ≡ true) where
-    pub rows-length : (length packed ≡ packedBytes w h → ⊥) → packedRows packed w h ≡ refused 29 0 0
-    unfolding packedRows
-    rows-length e = rw (s, ne-eqb (length packed) (packedBytes w h) e)
-
-    pub rows-filling : length packed ≡ packedBytes w h → firstFilling packed w < length packed
-        → packedRows packed w h ≡ refused 30 (firstFilling packed w) 0
-    unfolding packedRows
-    rows-filling f l = rw (s, eq-eqb (length packed) (packedBytes w h) f, lt-ltb (firstFilling packed w) (length packed) l)
-
-    pub rows-pass : length packed ≡ packedBytes w h → length packed ≤ firstFilling packed w → packedRows packed w h ≡ passes
-    unfolding packedRows
-    rows-pass f l = rw (s, eq-eqb (length packed) (packedBytes w h) f, le-ltb (firstFilling packed w) (length packed) l)
-
--- ---- what accepted bytes and accepted cells are known to be
-
-pub sides-known : (w h : ℕ) → sideFits w ≡ true → sideFits h ≡ true → Sides w h
-sides-known w h p q = record { wide = side-least w p; narrow = side-le w p; low = side-le h q }
-
-pub record Known (packed : List ℕ) (w h : ℕ) : Type 0 where
-  pub fits : (sideFits w && sideFits h) ≡ true
-  pub sized : Sized packed w h
-  pub clean : length packed ≤ firstFilling packed w
-
-pub packed-known : (packed : List ℕ) (w h : ℕ) → packedRows packed w h ≡ passes → Known packed w h
-unfolding packedRows
-packed-known packed w h e =
-    let wrong : Bool = not (eqb (length packed) (packedBytes w h)) in
-    let filling : Bool = ltb (firstFilling packed w) (length packed) in
-    let t = both-pass (sideRow w h) (andThen (row wrong 29 0) (row filling 30 (firstFilling packed w))) e in
-    let u = both-pass (row wrong 29 0) (row filling 30 (firstFilling packed w)) (t .1) in
-    let s = not-false _ (row-passes (not (sideFits w && sideFits h)) 1 0 (t .0)) in
-    record {
-      fits = s;
-      sized = record {
-        sides = sides-known w h (and-left (sideFits w) (sideFits h) s) (and-right (sideFits w) (sideFits h) s);
-        full = eqb-true (length packed) (packedBytes w h) (not-false _ (row-passes wrong 29 0 (u .0)));
-      };
-      clean = ltb-false (firstFilling packed w) (length packed) (row-passes filling 30 (firstFilling packed w) (u .1));
-    }
+-- ---- what accepted cells are known to be
 
 module _ (b : Board) (e : boardRows b ≡ passes) where
   pub board-sides : Sides (b .width) (b .height)
@@ -101,11 +50,6 @@ module _ (b : Board) (e : boardRows b ≡ passes) where
       record { bit = bits-all (b .cells) none }
 
 -- ---- no refusal passes
-
-pub packed-refuses : (why : PackedRefusal) → packedRow why ≡ passes → ⊥
-packed-refuses Side e = no-pass e
-packed-refuses Length e = no-pass e
-packed-refuses (Filling at) e = no-pass e
 
 pub board-refuses : (why : Refusal) → refusalRow why ≡ passes → ⊥
 board-refuses board-refusal.Side e = no-pass e

@@ -9,8 +9,8 @@ use Rattle.board.specs.Board.{Board}
 use Rattle.board.specs.Handed.{Verdict, passes, refused, Handed}
 use Rattle.board.specs.declared.Refusal.the-variants as board-refusal
 use Rattle.board.proofs.Determined as board-determined
-use Rattle.packed.specs.declared.PackedRefusal.{PackedRefusal}
-use Rattle.packed.specs.declared.PackedRefusal.the-variants.{Side, Length, Filling}
+use Rattle.filling.specs.declared.PackedRefusal.{PackedRefusal}
+use Rattle.filling.specs.declared.PackedRefusal.the-variants.{Side, Length, Filling}
 use Rattle.packed.specs.declared.ReadAnswer.{ReadAnswer}
 use Rattle.packed.specs.declared.ReadAnswer.the-variants as reading
 use Rattle.packed.specs.declared.WriteAnswer.{WriteAnswer}

@@ -1,9 +1,3 @@
-pub mod Digits
-pub mod Entries
-pub mod Rows
-pub mod Counting
-pub mod Trips
 pub mod Answering
 pub mod Determined
 pub mod Theorems
-pub mod Worked

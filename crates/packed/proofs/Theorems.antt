@@ -19,13 +19,15 @@ use Rattle.packed.specs.declared.WriteAnswer.{WriteAnswer}
 use Rattle.packed.specs.declared.WriteAnswer.the-variants.{Written}
 use Rattle.packed.specs.declared.CountAnswer.{CountAnswer}
 use Rattle.packed.specs.declared.CountAnswer.the-variants.{Blocked}
-use Rattle.packed.specs.Packed.{packedBytes, cellOf, cellsOf, blockedIn, byteFrom, packedOf}
-use Rattle.packed.specs.Answers.{packedRows, readRows, writeRows, CellsRead, saidRead}
+use Rattle.bits.specs.Packed.{packedBytes, cellOf, cellsOf, blockedIn, byteFrom, packedOf}
+use Rattle.filling.specs.Filling.{packedRows}
+use Rattle.filling.proofs.Checking as checking
+use Rattle.filling.proofs.Checking.{packed-known}
+use Rattle.packed.specs.Answers.{readRows, writeRows, CellsRead, saidRead}
 use Rattle.packed.specs.Answers.{PackedWritten, saidWritten, handedCount, countRow}
-use Rattle.packed.proofs.Entries.{entries-length, entries-at}
-use Rattle.packed.proofs.Trips.{read-written, written-clean, read-bits, written-read}
-use Rattle.packed.proofs.Answering as answering
-use Rattle.packed.proofs.Answering.{packed-known, board-sides, board-full, board-fits, board-bits, wrote-done, wrote-all}
+use Rattle.bits.proofs.Entries.{entries-length, entries-at}
+use Rattle.bits.proofs.Trips.{read-written, written-clean, read-bits, written-read}
+use Rattle.packed.proofs.Answering.{board-sides, board-full, board-fits, board-bits, wrote-done, wrote-all}
 use Rattle.packed.proofs.Determined.{read-determined, written-determined, count-determined}
 
 -- ---- where cells were written, and the part that was written is read into a slice that is long enough
@@ -51,7 +53,7 @@ module _ (cells : List ℕ) (w h : ℕ) (before after : List ℕ)
       let n = entries-length (byteFrom cells w) (packedBytes w h) in
       let s = board-sides (board cells w h) accepted in
       let c = written-clean w h (s .wide) cells (board-bits (board cells w h) accepted .bit) in
-      answering.rows-pass (packedOf cells w h) w h (board-fits (board cells w h) accepted) n (omega (arith, c))
+      checking.rows-pass (packedOf cells w h) w h (board-fits (board cells w h) accepted) n (omega (arith, c))
 
   -- then it is read, and the slice holds the cells that were written
   pub written-then-read : {lent left : List ℕ} {r : ReadAnswer} → w * h ≤ length lent → CellsRead part w h lent (saidRead r) left

@@ -1,37 +1,20 @@
 -- What the three calls hand back, in the table's numbers, and what the lent slice holds afterwards.
 use Prim.Native.Nat.{ℕ, _*_}
 use mathlib.Core.Path.{_≡_}
-use mathlib.Core.Bool.{not}
 use mathlib.Core.List.{List, _++_}
-use lib.Dec.{ltb, eqb}
+use lib.Dec.{ltb}
 use lib.ListN.{length, drop}
 use Rattle.board.specs.Board.{Board}
 use Rattle.board.specs.Handed.{Verdict, passes, refused, row, andThen, Handed}
-use Rattle.board.specs.Handed.{answer, unless, judged, sideRow, boardRows, refusalRow}
-use Rattle.packed.specs.declared.PackedRefusal.{PackedRefusal}
-use Rattle.packed.specs.declared.PackedRefusal.the-variants.{Side, Length, Filling}
+use Rattle.board.specs.Handed.{answer, unless, judged, boardRows, refusalRow}
+use Rattle.bits.specs.Packed.{packedBytes, cellsOf, blockedIn, packedOf}
+use Rattle.filling.specs.Filling.{packedRows, packedRow}
 use Rattle.packed.specs.declared.ReadAnswer.{ReadAnswer}
 use Rattle.packed.specs.declared.ReadAnswer.the-variants as reading
 use Rattle.packed.specs.declared.WriteAnswer.{WriteAnswer}
 use Rattle.packed.specs.declared.WriteAnswer.the-variants as writing
 use Rattle.packed.specs.declared.CountAnswer.{CountAnswer}
 use Rattle.packed.specs.declared.CountAnswer.the-variants as counting
-use Rattle.packed.specs.Packed.{packedBytes, firstFilling, cellsOf, blockedIn, packedOf}
-
--- ---- packed bytes
-
--- 1, then 29: wrong packed length, then 30: a filling bit set, with the byte's index
-unfoldable pub packedRows : List ℕ → (width height : ℕ) → Verdict
-packedRows packed width height =
-    andThen (sideRow width height)
-    (andThen (row (not (eqb (length packed) (packedBytes width height))) 29 0)
-    (row (ltb (firstFilling packed width) (length packed)) 30 (firstFilling packed width)))
-
--- the row of each refusal of the code
-abbrev pub packedRow : PackedRefusal → Verdict
-packedRow Side = refused 1 0 0
-packedRow Length = refused 29 0 0
-packedRow (Filling at) = refused 30 at 0
 
 -- ---- a call that writes a lent slice
 

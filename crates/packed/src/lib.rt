@@ -1,58 +1,20 @@
 // Packed boards from the camera: one bit per cell, high bit first, each row filled up to a whole byte with zero bits.
 ghost use mathlib.Core.Path.{_≡_};
 ghost use Rattle.board.specs.Board.{board};
-ghost use Rattle.board.specs.Handed.{numberIn, placeIn};
-ghost use Rattle.packed.specs.Answers.{packedRows, packedRow, CellsRead, saidRead};
+ghost use Rattle.packed.specs.Answers.{CellsRead, saidRead};
 ghost use Rattle.packed.specs.Answers.{PackedWritten, saidWritten, handedCount, countRow};
-ghost use Rattle.packed.specs.Inner.{verdict};
+use bits::inner::count_bits;
+use bits::inner::row_bytes;
 use board::Checked;
 use board::Refusal;
 use board::check_board;
-use board::inner::side_fits;
-use bytes::count_bits;
-use bytes::first_filling;
 use bytes::pack;
-use bytes::row_bytes;
 use bytes::unpack;
+use filling::PackedChecked;
+pub use filling::PackedRefusal;
+use filling::check_packed;
 
 mod bytes;
-
-// Why packed bytes are refused: 1, 29, or 30 with the index of the first byte that has a filling bit set.
-pub enum PackedRefusal {
-    Side,
-    Length,
-    Filling(usize),
-}
-
-impl PackedRefusal {
-    // The table's number.
-    pub fn number(self) -> u64
-        ensures { λ r. ⌜ r ≡ numberIn (packedRow self) ⌝ }
-    {
-        match self {
-            PackedRefusal::Side => 1,
-            PackedRefusal::Length => 29,
-            PackedRefusal::Filling(_) => 30,
-        }
-    }
-
-    // The index of the byte, 0 where no place is named.
-    pub fn place(self) -> usize
-        ensures { λ r. ⌜ r ≡ placeIn (packedRow self) ⌝ }
-    {
-        match self {
-            PackedRefusal::Side => 0,
-            PackedRefusal::Length => 0,
-            PackedRefusal::Filling(at) => at,
-        }
-    }
-}
-
-// What the checks of packed bytes say.
-pub enum PackedChecked {
-    Accepted,
-    Refused(PackedRefusal),
-}
 
 // What reading answers: done, or 1, 29, 30, or 19.
 pub enum ReadAnswer {
@@ -72,26 +34,6 @@ pub enum WriteAnswer {
 pub enum CountAnswer {
     Blocked(usize),
     Refused(PackedRefusal),
-}
-
-// Refusals 1, 29 and 30: sides, number of bytes, filling bits.
-fn check_packed(packed: &[u8], width: usize, height: usize) -> PackedChecked
-    ensures { λ r. ⌜ verdict r ≡ packedRows (now (packed .entry)) width height ⌝ }
-{
-    if !side_fits(width) {
-        return PackedChecked::Refused(PackedRefusal::Side);
-    }
-    if !side_fits(height) {
-        return PackedChecked::Refused(PackedRefusal::Side);
-    }
-    if packed.len() != row_bytes(width) * height {
-        return PackedChecked::Refused(PackedRefusal::Length);
-    }
-    let at = first_filling(packed, width, height);
-    if at < packed.len() {
-        return PackedChecked::Refused(PackedRefusal::Filling(at));
-    }
-    PackedChecked::Accepted
 }
 
 // Writes the cells of packed bytes into the lent slice, a byte each.

@@ -2,9 +2,9 @@
 use mathlib.Core.Path.{_≡_, refl, ap₂, _∙_}
 use Prim.Native.Nat.{ℕ}
 use Rattle.board.specs.Handed.{refused, numberIn, placeIn}
-use Rattle.packed.specs.declared.PackedRefusal.{PackedRefusal}
-use Rattle.packed.specs.declared.PackedRefusal.the-variants.{Side, Length, Filling}
-use Rattle.packed.specs.Answers.{packedRow}
+use Rattle.filling.specs.declared.PackedRefusal.{PackedRefusal}
+use Rattle.filling.specs.declared.PackedRefusal.the-variants.{Side, Length, Filling}
+use Rattle.filling.specs.Filling.{packedRow}
 
 pub packed-refusal-is : (why : PackedRefusal) {n p : ℕ} → n ≡ numberIn (packedRow why) → p ≡ placeIn (packedRow why)
     → refused n p 0 ≡ packedRow why

@@ -1,4 +1,4 @@
-// What C gets of the calls for packed boards, as include/wexxolin.h declares it.
+// What C gets of a packed board that is read or written, as include/wexxolin.h declares it.
 pub mod inner;
 
 // What is said of a board read or written: it has no value.
@@ -7,13 +7,4 @@ pub struct Packing {
     pub number: u64,
     pub place: u64,
     pub second: u64,
-}
-
-// How many cells are blocked.
-#[repr(C)]
-pub struct Counted {
-    pub number: u64,
-    pub place: u64,
-    pub second: u64,
-    pub blocked: u64,
 }

@@ -1,23 +1,21 @@
--- Rows and lengths of a path depend on its n points alone. Assumes nothing.
-use Prim.Native.Nat.{ℕ, zero, suc, _+_, _-_, _*_, _≤_, _<_}
-use mathlib.Core.Path.{_≡_, refl, sym, ap, ap₂, _∙_}
-use mathlib.Core.Bool.{Bool, true, false, not, _&&_}
+-- The rows of a path depend on its n points alone. Assumes nothing.
+use Prim.Native.Nat.{ℕ, zero, suc, _+_, _-_, _≤_, _<_}
+use mathlib.Core.Path.{_≡_, refl, ap, ap₂, _∙_}
+use mathlib.Core.Bool.{Bool, true}
 use mathlib.Core.List.{List, [], _∷_}
 use native.Mathlib.Omega.{arith}
-use lib.Dec.{leb, ltb, eqb}
+use lib.Dec.{leb, eqb}
 use lib.ListN.{length}
 use borrow.Author.Tests.{not-false, leb-true}
 use Rattle.laws.specs.Below.{firstWhere}
 use Rattle.laws.proofs.Tests.{and-left, and-right}
 use Rattle.laws.proofs.Below.{first-before}
 use Rattle.board.specs.Board.{Board, isVertex}
-use Rattle.board.specs.Inner.{OnBoard}
 use Rattle.board.specs.Handed.{passes, row}
 use Rattle.board.proofs.Verdicts.{both-pass}
 use Rattle.kinds.specs.Job.{Net}
 use Rattle.tracks.specs.Tracks.{Point}
 use Rattle.bureau.specs.Paths.{pointAt, isEndWrong, isOff, offPlace, isLegWrong, legPlace, startOf, goalOf, placeRow, pathRows, netRows}
-use Rattle.bureau.specs.Paths.{total, legUnits, unitsAlong}
 use Rattle.bureau.specs.Inner.{PointsOn}
 use Rattle.bureau.proofs.Answering.{row-none}
 
@@ -25,17 +23,6 @@ first-same : (t s : ℕ → Bool) (n : ℕ) → ((i : ℕ) → i < n → t i ≡
 unfolding firstWhere
 first-same t s zero h = refl
 first-same t s (suc n) h = rw (first-same t s n (λ i l. h i (omega arith)), h n (omega arith))
-
-total-same : (f g : ℕ → ℕ) (n : ℕ) → ((i : ℕ) → i < n → f i ≡ g i) → total n f ≡ total n g
-unfolding total
-total-same f g zero h = refl
-total-same f g (suc n) h = ap₂ _+_ (total-same f g n (λ i l. h i (omega arith))) (h n (omega arith))
-
--- a sum of small numbers is small
-pub total-most : (f : ℕ → ℕ) (n most : ℕ) → ((i : ℕ) → i < n → f i ≤ most) → total n f ≤ n * most
-unfolding total
-total-most f zero most h = omega arith
-total-most f (suc n) most h = omega (arith, total-most f n most (λ i l. h i (omega arith)), h n (omega arith))
 
 module _ (b : Board) (n : ℕ) (p q : ℕ → Point) (h : (k : ℕ) → k < n → p k ≡ q k) where
   off-same : offPlace b n p ≡ offPlace b n q
@@ -50,10 +37,6 @@ module _ (b : Board) (n : ℕ) (p q : ℕ → Point) (h : (k : ℕ) → k < n �
   pub path-same : (net : Net) → 0 < n → pathRows b net n p ≡ pathRows b net n q
   unfolding pathRows isEndWrong
   path-same net l = rw (h 0 l, h (n - 1) (omega arith), off-same, leg-same)
-
-  pub units-same : unitsAlong n p ≡ unitsAlong n q
-  unfolding unitsAlong
-  units-same = total-same _ _ (n - 1) (λ k l. ap₂ legUnits (h k (omega arith)) (h (k + 1) (omega arith)))
 
 -- the same where points are a list that is not empty
 pub net-same : (b : Board) (net : Net) (ps : List Point) (n : ℕ) (q : ℕ → Point) → 0 < n → length ps ≡ n → ((k : ℕ) → k < n → pointAt ps k ≡ q k)

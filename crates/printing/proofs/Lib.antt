@@ -1,1 +1,3 @@
-pub mod Printing
+mod Printing
+mod Calls
+pub mod Determined

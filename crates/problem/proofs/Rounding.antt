@@ -7,7 +7,7 @@ use native.Mathlib.Omega.{arith}
 use lib.ListN.{length}
 use Rattle.board.specs.Board.{Board}
 use Rattle.length.specs.Units.{unitsOf}
-use Rattle.length.proofs.Root.{finer-low, finer-high}
+use Rattle.root.proofs.Root.{finer-low, finer-high}
 use Rattle.length.proofs.Units.{units-bounds}
 use Rattle.reach.specs.Turns.{at}
 use Rattle.theta.specs.Demands.{unitsAlong}

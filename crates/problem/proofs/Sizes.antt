@@ -7,10 +7,10 @@ use lib.Dec.{lit<}
 use Rattle.board.specs.Limits.{largestSide, mostVertices}
 use Rattle.board.specs.Board.{Board, number}
 use Rattle.board.proofs.Numbers.{column-number, row-number}
-use Rattle.length.specs.Legs.{step}
+use Rattle.spans.specs.Legs.{step}
 use Rattle.length.specs.Units.{unitsPerCell, units}
 use Rattle.length.proofs.Units.{units-most}
-use Rattle.length.proofs.Legs.{step-size}
+use Rattle.spans.proofs.Legs.{step-size}
 use Rattle.problem.specs.Problem.{unitsFrom}
 use Rattle.problem.specs.Sizes.{longest, largest}
 

@@ -6,8 +6,8 @@ use mathlib.Core.List.{List, [], _∷_}
 use Prim.Native.Nat.{ℕ, _+_, _-_, _*_, _^_, _≤_, _<_}
 use lib.ListN.{length}
 use Rattle.board.specs.Board.{Board, vertices, number, column, row}
-use Rattle.length.specs.Legs.{step}
-use Rattle.length.specs.Root.{root, Bounds}
+use Rattle.spans.specs.Legs.{step}
+use Rattle.root.specs.Root.{root, Bounds}
 use Rattle.length.specs.Units.{square, units}
 use Rattle.reach.specs.Turns.{at}
 use Rattle.legs.specs.Sight.{strictlyInside, sees}

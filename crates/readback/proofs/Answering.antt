@@ -1,9 +1,8 @@
 -- What the reader answers, and what the slices hold then. Assumes nothing.
-use Prim.Native.Nat.{ℕ, _≤_}
-use mathlib.Core.Path.{_≡_, refl, sym, ap, ap₂, _∙_}
+use Prim.Native.Nat.{ℕ}
+use mathlib.Core.Path.{_≡_, sym, ap, _∙_}
 use mathlib.Core.Bool.{Bool, true, false, _||_}
 use mathlib.Core.List.{List}
-use native.Mathlib.Omega.{arith}
 use lib.Dec.{ltb}
 use lib.ListN.{length}
 use borrow.Author.Tests.{ltb-false}
@@ -20,10 +19,12 @@ use Rattle.tracks.specs.Answers.{handedRead, isShort, readRows, readRow, slices
 use Rattle.tracks.proofs.Laying.{counts-length, all-length}
 use Rattle.tracks.proofs.Sizes.{nets-counted, points-counted}
 use Rattle.tracks.proofs.Theorems.{all-records}
-use Rattle.readback.specs.declared.Progress.{Progress}
-use Rattle.readback.specs.declared.Step.{Step}
-use Rattle.readback.specs.declared.Step.the-variants as step
-use Rattle.readback.specs.Inner.{progress, Checked, Room, Gathered}
+use Rattle.scan.specs.declared.Progress.{Progress}
+use Rattle.scan.specs.declared.Step.{Step}
+use Rattle.scan.specs.declared.Step.the-variants as step
+use Rattle.scan.specs.Inner.{progress}
+use Rattle.gather.specs.Inner.{Room, Gathered}
+use Rattle.readback.specs.Inner.{Checked}
 
 -- ---- the file is refused
 

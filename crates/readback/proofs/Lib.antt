@@ -1,4 +1,2 @@
-pub mod Filling
-pub mod Taking
 pub mod Judging
 pub mod Answering

@@ -2,27 +2,12 @@
 ghost use Rattle.tracks.specs.Layout.{slices};
 ghost use Rattle.tracks.specs.Answers.{handedRead, RoutesRead};
 use check::check_routes;
-use gather::gather;
+use gather::inner::gather;
+use scan::Step;
 use tracks::ReadAnswer;
 use tracks::RouteRefusal;
 
 pub mod check;
-mod gather;
-
-// What the records before say: the last net, the place that its next record must have, 0 if it can have none, and how many
-// nets and points there are.
-pub struct Progress {
-    pub last: usize,
-    pub next: usize,
-    pub nets: usize,
-    pub points: usize,
-}
-
-// What a record is judged as.
-pub enum Step {
-    Next(Progress),
-    Refused(RouteRefusal),
-}
 
 // Writes the nets of a route file, how many points each has, 0 for no path, and all points' x and y into the lent slices.
 pub fn read_routes(

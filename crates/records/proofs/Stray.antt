@@ -5,10 +5,8 @@ use mathlib.Core.Bool.{Bool, true, false, _&&_, cond}
 use mathlib.Core.List.{List}
 use native.Mathlib.Omega.{arith}
 use lib.Dec.{ltb, eqb}
-use borrow.Author.Tests.{eqb-true}
 use Rattle.laws.specs.Below.{firstWhere}
 use Rattle.laws.proofs.Below.{none-yet, none-more, first-here}
-use Rattle.laws.proofs.Tests.{and-left, and-right}
 use Rattle.board.specs.Handed.{passes, refused}
 use Rattle.board.proofs.Verdicts.{no-pass, Within}
 use Rattle.records.specs.Records.{recordBytes, isStrayByte, strayByte, unusedRow}
@@ -30,11 +28,9 @@ module _ (file used : List ℕ) (i : ℕ) where
 
   -- a stray byte is the lowest where none is known, and any other byte changes nothing
   module _ {k lowest : ℕ} {stray : Bool} (s : stray ≡ isStrayByte file used i k) where
-    pub lowest-found : k < recordBytes → (stray && eqb lowest recordBytes) ≡ true → Lowest file used i k lowest → Lowest file used i (k + 1) k
-    lowest-found l t (none n f) =
-        known l (sym (first-here (isStrayByte file used i) k f (sym s ∙ and-left stray (eqb lowest recordBytes) t) recordBytes l))
-    lowest-found l t (known n f) =
-        let e = eqb-true lowest recordBytes (and-right stray (eqb lowest recordBytes) t) in absurd (omega arith)
+    pub lowest-found : k < recordBytes → stray ≡ true → lowest ≡ recordBytes → Lowest file used i k lowest → Lowest file used i (k + 1) k
+    lowest-found l t e (none n f) = known l (sym (first-here (isStrayByte file used i) k f (sym s ∙ t) recordBytes l))
+    lowest-found l t e (known n f) = absurd (omega arith)
 
     pub lowest-kept : (stray && eqb lowest recordBytes) ≡ false → Lowest file used i k lowest → Lowest file used i (k + 1) lowest
     lowest-kept t (none n f) = none n (none-more (isStrayByte file used i) k f (sym s ∙ alone stray (rw n at t)))

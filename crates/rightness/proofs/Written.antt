@@ -31,7 +31,7 @@ use Rattle.tracks.specs.Answers.{laid, Records, fileFor, isLacking, writeRows, 
 use Rattle.tracks.proofs.Rising.{whole-file}
 use Rattle.tracks.proofs.Laying.{counts-length, points-all, laid-again}
 use Rattle.tracks.proofs.Theorems.{routes-again}
-use Rattle.writeback.proofs.Measuring.{Judged, judged-none, judged-more}
+use Rattle.tally.proofs.Measuring.{Judged, judged-none, judged-more}
 use Rattle.bureau.specs.Paths.{problemOf}
 use Rattle.bureau.specs.Nets.{jobBoard, jobNet}
 use Rattle.bureau.specs.Answers.{Slices, checkRow}

@@ -1,10 +1,9 @@
--- What the tests of a record say. Assumes nothing.
-use Prim.Native.Nat.{ℕ, _≤_, _<_}
+-- What the tests of a job's record and of a net say. Assumes nothing.
+use Prim.Native.Nat.{ℕ}
 use mathlib.Core.Path.{_≡_, sym, ap₂, _∙_}
-use mathlib.Core.Bool.{Bool, false, not, _&&_, _||_}
+use mathlib.Core.Bool.{Bool, not, _&&_, _||_}
 use mathlib.Core.List.{List}
-use lib.Dec.{ltb, eqb}
-use borrow.Author.Tests.{lt-ltb, le-ltb}
+use lib.Dec.{eqb}
 use Rattle.records.specs.Records.{byte}
 use Rattle.kinds.specs.Job.{isNet, netAt}
 
@@ -12,13 +11,6 @@ use Rattle.kinds.specs.Job.{isNet, netAt}
 pub net-told : (job : List ℕ) (i number : ℕ) {a b : ℕ} {v : Bool} → a ≡ byte job i 0 → b ≡ byte job i 1 → (eqb a 3 && eqb b number) ≡ v
     → (isNet job i && eqb (netAt job i .number) number) ≡ v
 net-told job i number e f h = sym (ap₂ (λ (a b : ℕ). eqb a 3 && eqb b number) e f) ∙ h
-
--- what a test of the file's first record says
-pub point-told : (i n : ℕ) {a b : ℕ} → i < n → a ≡ b → eqb a 4 ≡ (ltb i n && eqb b 4)
-point-told i n l e = rw (lt-ltb i n l, e)
-
-pub point-none : (i n : ℕ) (v : Bool) → n ≤ i → false ≡ (ltb i n && v)
-point-none i n v l = rw (le-ltb i n l)
 
 -- what a test of a net says that only one of the two has
 pub odd-told : {a b c d v : Bool} → a ≡ c → b ≡ d → ((a && not b) || (not a && b)) ≡ v → ((c && not d) || (not c && d)) ≡ v

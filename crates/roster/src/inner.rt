@@ -1,19 +1,11 @@
-// Calls for the crates above: each says what it requires.
+// A call for the crates above.
 ghost use mathlib.Core.Path.{_≡_};
-ghost use mathlib.Core.Bool.{true, _&&_};
-ghost use Prim.Native.Nat.{_≤_, _<_};
-ghost use lib.Dec.{ltb};
-ghost use Rattle.board.specs.Handed.{passes};
-ghost use Rattle.records.specs.Records.{records};
-ghost use Rattle.tracks.specs.Tracks.{isPoint, placeOf, routesIn};
-ghost use Rattle.tracks.specs.Faults.{fileRows};
+ghost use Rattle.tracks.specs.Tracks.{routesIn};
 ghost use Rattle.bureau.specs.Nets.{inJob, inRoutes, oddNet};
-ghost use Rattle.bureau.specs.Inner.{firstRecord, LastOf, Run};
 use kinds::NET;
-use readback::check::place_of;
 use records::RECORD;
 use records::inner::byte_of;
-use tracks::POINT;
+use runs::inner::first_record;
 
 // The net numbers are those of a byte.
 pub const NUMBERS: usize = 256;
@@ -27,29 +19,6 @@ fn is_in_job(job: &[u8], number: usize) -> bool
         if (byte_of(job, i, 0) == NET) & same {
             return true;
         }
-    }
-    false
-}
-
-// The first record of the file with this net number, or the number of records.
-pub fn first_record(file: &[u8], number: usize) -> usize
-    ensures { λ r. ⌜ r ≡ firstRecord (now (file .entry)) number ⌝ }
-{
-    let count = file.len() / RECORD;
-    for i in 0..count {
-        if byte_of(file, i, 1) == number {
-            return i;
-        }
-    }
-    count
-}
-
-// Whether record i is there, and a point.
-pub fn has_point(file: &[u8], i: usize) -> bool
-    ensures { λ r. ⌜ r ≡ (ltb i (records (now (file .entry))) && isPoint (now (file .entry)) i) ⌝ }
-{
-    if i < file.len() / RECORD {
-        return byte_of(file, i, 0) == POINT;
     }
     false
 }
@@ -73,31 +42,4 @@ pub fn odd_net(job: &[u8], file: &[u8]) -> usize
         }
     }
     NUMBERS
-}
-
-// The last record of the net whose first record this is.
-fn last_record(file: &[u8], first: usize) -> usize
-    requires { ⌜ fileRows (now file) ≡ passes ⌝ }
-    requires { ⌜ (first < records (now file)) × (isPoint (now file) first ≡ true) × (placeOf (now file) first ≡ 0) ⌝ }
-    ensures { λ r. ⌜ LastOf (now (file .entry)) first r ⌝ }
-{
-    let number = byte_of(file, first, 1);
-    let mut last = first;
-    while last + 1 < file.len() / RECORD {
-        if byte_of(file, last + 1, 1) != number {
-            return last;
-        }
-        last += 1;
-    }
-    last
-}
-
-// How many points the net has whose first record this is: the last one's place tells.
-pub fn count_points(file: &[u8], first: usize) -> usize
-    requires { ⌜ fileRows (now file) ≡ passes ⌝ }
-    requires { ⌜ (first < records (now file)) × (isPoint (now file) first ≡ true) × (placeOf (now file) first ≡ 0) ⌝ }
-    ensures { λ r. ⌜ Run (now (file .entry)) first r × (r ≤ 65536) ⌝ }
-{
-    let last = last_record(file, first);
-    place_of(file, last) + 1
 }

@@ -1,5 +1,1 @@
-pub mod Limits
-pub mod Searching
-pub mod Answering
 pub mod Refusing
-pub mod Sent

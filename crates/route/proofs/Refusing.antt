@@ -1,4 +1,4 @@
--- A refused job: its one line, and that no board is larger than the program's buffer. Assumes nothing.
+-- A refused job, and that no board is larger than the program's buffer. Assumes nothing.
 use Prim.Native.Nat.{ℕ, _+_, _*_, _%_, _^_, _≤_, _<_}
 use mathlib.Core.Path.{_≡_, refl, sym, ap, subst, _∙_}
 use mathlib.Core.Bool.{Bool, true, false, not, cond, false≢true}
@@ -7,7 +7,7 @@ use native.Mathlib.Omega.{arith}
 use lib.Dec.{ltb, eqb}
 use lib.ListN.{length}
 use borrow.Author.Tests.{eqb-false, le-ltb}
-use Rattle.board.specs.Handed.{Verdict, passes, refused, row, andThen, Handed, judged, numberIn, placeIn, secondIn}
+use Rattle.board.specs.Handed.{Verdict, passes, refused, row, andThen, Handed, judged, numberIn}
 use Rattle.board.proofs.Verdicts.{Within, row-within, then-within, no-pass}
 use Rattle.board.proofs.Rows.{cells-few}
 use Rattle.records.specs.Records.{records, byte, recordBytes, lengthRow, inOrder, unusedRow}
@@ -24,12 +24,7 @@ use Rattle.refusals.proofs.Refusing.{isOwn, listed, not-own, refuses}
 use Rattle.faults.proofs.Accepted.{width-fits, height-fits}
 use Rattle.job.specs.declared.BoardAnswer.the-variants as board-read
 use Rattle.job.specs.Answers.{Sides, noSides, handedBoard, boardRow, BoardRead}
-use Rattle.lines.specs.declared.Line.{Line}
-use Rattle.lines.specs.Answers.{bytesOf}
-use Rattle.lines.specs.Inner.{Refusing}
-use Rattle.lines.proofs.Refusals.{refusing-bytes}
-use Rattle.route.specs.Limits.{cellRoom}
-use Rattle.route.specs.Output.{lineCount, lineAt}
+use Rattle.netroute.specs.Limits.{cellRoom}
 
 -- ---- the numbers of a job's own rows
 
@@ -93,17 +88,3 @@ module _ (job : List ℕ) where
   board-refused {before} why r =
       let short = ltb (length before) (width job * height job) in
       refused-by (jobRows job) why short (refuses noSides (andThen (jobRows job) (row short 19 0)) why _ (r .row-is))
-
--- ---- the line of a refusal
-
-module _ (job : List ℕ) (why : JobRefusal) (e : jobRows job ≡ refusalRow why) where
-  pub one-line : lineCount job ≡ 1
-  one-line = rw (e, listed why .row-is)
-
-  -- as the code makes it, from the number and the places
-  pub refusal-bytes : {n p s : ℕ} → n ≡ numberIn (refusalRow why) → p ≡ placeIn (refusalRow why) → s ≡ secondIn (refusalRow why)
-      → {r : Line} → Refusing n p s r → (w : ℕ) (path : List ℕ) → bytesOf r w path ≡ lineAt job 0
-  refusal-bytes {n} {p} {s} number place second made w path =
-      ap (λ (x : Line). bytesOf x w path) (made .line-is)
-      ∙ refusing-bytes n p s w path
-      ∙ rw (number, place, second, e, listed why .row-is)

@@ -1,35 +1,26 @@
 // The route program: a job on standard input, a line for each net on standard output.
 ghost use mathlib.Core.Path.{_≡_};
-ghost use Rattle.route.specs.Limits.{cellRoom, vertexRoom, lineRoom, mostTries};
-ghost use Rattle.route.specs.Inner.{AllSent};
+ghost use Rattle.netroute.specs.Limits.{cellRoom, lineRoom};
+ghost use Rattle.replies.specs.Inner.{AllSent};
 use faults::LONGEST;
 use job::BoardAnswer;
 use job::read_board;
-use print::Sent;
-use print::never;
-use print::print_nets;
-use print::print_refusal;
-use system::read_job;
-
-mod print;
-mod system;
+use netroute::VERTICES;
+use netroute::WIDEST;
+use nets::inner::print_nets;
+use replies::inner::Sent;
+use replies::inner::never;
+use replies::inner::print_refusal;
+use streams::read_job;
 
 // One byte more than the longest job, so that a longer one is known.
 const ROOM: usize = LONGEST + 1;
 
-// The program's own limit: its buffers are for boards up to this side.
-const WIDEST: usize = 63;
-
-// The cells and the vertices of such a board.
+// The cells of the widest board.
 const CELLS: usize = WIDEST * WIDEST;
-
-pub const VERTICES: usize = (WIDEST + 1) * (WIDEST + 1);
 
 // The bytes that suffice for each of its lines: words and four numbers of 20 digits, and 6 for each vertex.
 const LINE: usize = 31 + 4 * 20 + 6 * VERTICES;
-
-// How often a read or a write that moves nothing is tried.
-pub const TRIES: usize = 100000000;
 
 // The constants are the definitions' numbers.
 fn cell_room() -> usize
@@ -38,22 +29,10 @@ fn cell_room() -> usize
     CELLS
 }
 
-fn vertex_room() -> usize
-    ensures { λ r. ⌜ r ≡ vertexRoom ⌝ }
-{
-    VERTICES
-}
-
 fn line_room() -> usize
     ensures { λ r. ⌜ r ≡ lineRoom ⌝ }
 {
     LINE
-}
-
-fn most_tries() -> usize
-    ensures { λ r. ⌜ r ≡ mostTries ⌝ }
-{
-    TRIES
 }
 
 // What the program prints for a job.

@@ -28,7 +28,7 @@ use Rattle.problem.proofs.Theorems.{
   found-units,
   found-exact,
 }
-use Rattle.router.specs.Answers.{Route, noRoute, found, none, Slices, workRow, searchRow, routeRow, searched, Routed}
+use Rattle.answer.specs.Answers.{Route, noRoute, found, none, Slices, workRow, searchRow, routeRow, searched, Routed}
 use Rattle.router.specs.Demands.{Exhaustive, Rightly}
 
 -- a request that is searched passed the checks 1 to 6

@@ -9,9 +9,9 @@ use Rattle.board.specs.Board.{Board}
 use Rattle.board.specs.Handed.{Handed}
 use Rattle.board.proofs.Determined.{refusalOf}
 use Rattle.problem.specs.Problem.{problem}
-use Rattle.router.specs.declared.Answer.{Answer}
-use Rattle.router.specs.declared.Answer.the-variants.{Found, NoPath, Refused, Work, Short}
-use Rattle.router.specs.Answers.{Route, handedRoute, Slices, slicesAfter, Routed}
+use Rattle.answer.specs.declared.Answer.{Answer}
+use Rattle.answer.specs.declared.Answer.the-variants.{Found, NoPath, Refused, Work, Short}
+use Rattle.answer.specs.Answers.{Route, handedRoute, Slices, slicesAfter, Routed}
 
 -- the answer that hands this back
 answerOf : Handed Route → Answer

@@ -1,4 +1,3 @@
-pub mod Inside
 pub mod Routing
 pub mod Determined
 pub mod Written

@@ -1,11 +1,9 @@
 -- The route call's answer and slices, from its steps. Assumes nothing.
-use mathlib.Core.Path.{_≡_, refl, sym, ap, _∙_}
-use mathlib.Core.Bool.{Bool, true, false, not, _||_, cond}
-use mathlib.Core.List.{List, _++_}
+use mathlib.Core.Path.{_≡_, refl, _∙_}
+use mathlib.Core.Bool.{true, false, _||_}
 use Prim.Native.Nat.{ℕ, _≤_}
-use native.Mathlib.Omega.{arith}
-use lib.Dec.{ltb, eqb}
-use lib.ListN.{length, drop, length-append}
+use lib.Dec.{ltb}
+use lib.ListN.{length}
 use borrow.Author.Tests.{ltb-false}
 use Rattle.laws.proofs.Tests.{or-neither}
 use Rattle.board.specs.declared.Checked.{Checked}
@@ -13,88 +11,11 @@ use Rattle.board.specs.declared.Checked.the-variants.{Refused}
 use Rattle.board.specs.declared.Refusal.{Refusal}
 use Rattle.board.specs.declared.Refusal.the-variants.{Side, Count, Byte, First, Second}
 use Rattle.board.specs.Board.{Board, vertices}
-use Rattle.board.specs.Handed.{Verdict, passes, refused, row, andThen, Handed, unless, judged, legRows, refusalRow, verdict}
+use Rattle.board.specs.Handed.{passes, refused, Handed, judged, legRows, refusalRow, verdict}
 use Rattle.board.proofs.Verdicts.{refuses-on, refused-row, refusal-handed}
-use Rattle.reach.specs.Turns.{at}
-use Rattle.theta.specs.Search.{Problem, State, search, path}
-use Rattle.theta.specs.Demands.{Work}
-use Rattle.theta.specs.Lent.{Searched}
 use Rattle.problem.specs.Problem.{problem}
-use Rattle.router.specs.Answers.{Route, noRoute, none, found, searchRow, Slices, slices, workRow, routeRow, searched, written, slicesAfter, Routed}
-use Rattle.router.specs.Inside.{pathOf, PathGiven, Ran}
-
--- ---- once the search has run
-
--- it leaves its lists in the work slices, and its path where it found one that fits
-pub searched-row : (p : Problem) (lent : ℕ) → searched (searchRow p lent .number) ≡ true
-unfolding searchRow
-searched-row p lent = go (search p .found) (ltb lent (length (path p (search p .state))))
-  where
-    go : (f l : Bool)
-        → let s = search p .state in
-        let n = length (path p s) in
-        searched (cond f (unless noRoute (row l 7 n) (found (at (s .g) (p .goal)) n (at (s .legs) (p .goal)) (s .expansions) (s .tests))) (none (s .expansions) (s .tests)) .number) ≡ true
-    go true true = refl
-    go true false = refl
-    go false l = refl
-
--- a search that is known to have found a path
-pub as-found : {p : Problem} {before after : State} {f : Bool} → f ≡ true → Searched p before after f → Searched p before after true
-as-found y S = rw y at S
-
-module _ {p : Problem} (W : Work p (search p .state)) {before after : State} {f : Bool} (S : Searched p before after f) where
-  -- the work slices, as the definition's lists and what lies beyond them
-  g-is : after .g ≡ written true (search p .state .g) (before .g)
-  g-is = S .g-is ∙ ap (λ (n : ℕ). search p .state .g ++ drop n (before .g)) (sym (W .g-size))
-
-  parents-is : after .parent ≡ written true (search p .state .parent) (before .parent)
-  parents-is = S .parent-is ∙ ap (λ (n : ℕ). search p .state .parent ++ drop n (before .parent)) (sym (W .parent-size))
-
-  marks-is : after .mark ≡ written true (search p .state .mark) (before .mark)
-  marks-is = S .mark-is ∙ ap (λ (n : ℕ). search p .state .mark ++ drop n (before .mark)) (sym (W .mark-size))
-
-  legs-is : after .legs ≡ written true (search p .state .legs) (before .legs)
-  legs-is = S .legs-is ∙ ap (λ (n : ℕ). search p .state .legs ++ drop n (before .legs)) (sym (W .legs-size))
-
-  -- with the path slice as the number says, the slices are as the definition leaves them
-  all-written : (number : ℕ) (path₀ : List ℕ) {path′ : List ℕ} → searched number ≡ true → path′ ≡ written (eqb number 0) (path p (search p .state)) path₀
-      → slices (after .g) (after .parent) (after .mark) (after .legs) path′
-      ≡ slicesAfter p number (slices (before .g) (before .parent) (before .mark) (before .legs) path₀)
-  all-written number path₀ y w = rw (y, g-is, parents-is, marks-is, legs-is, w)
-
-  pub g-room : p .size ≤ length (after .g)
-  g-room = rw (S .g-is, length-append) (omega (arith, W .g-size))
-
-  pub legs-room : p .size ≤ length (after .legs)
-  legs-room = rw (S .legs-is, length-append) (omega (arith, W .legs-size))
-
-  pub ran-none : (path₀ : List ℕ) → f ≡ false
-      → Ran p (slices (before .g) (before .parent) (before .mark) (before .legs) path₀) (slices (after .g) (after .parent) (after .mark) (after .legs) path₀)
-      (none (after .expansions) (after .tests))
-  unfolding searchRow
-  ran-none path₀ n = record { row-is = rw (S .expansions-is, S .tests-is, sym (S .found-is) ∙ n); after-is = all-written 8 path₀ refl refl }
-
-  pub ran-path : {start goal units legs : ℕ} {path₀ path′ : List ℕ} {h : Handed Route} → f ≡ true
-      → PathGiven start goal units legs (after .expansions) (after .tests) (after .parent) path₀ path′ h
-      → pathOf start goal (after .parent) ≡ path p (search p .state) → units ≡ at (search p .state .g) (p .goal)
-      → legs ≡ at (search p .state .legs) (p .goal)
-      → Ran p (slices (before .g) (before .parent) (before .mark) (before .legs) path₀) (slices (after .g) (after .parent) (after .mark) (after .legs) path′) h
-  unfolding searchRow
-  ran-path {units = units} {legs = legs} {path₀ = path₀} {h = h} y T w u l =
-      let r : h ≡ searchRow p (length path₀) = T .row-is ∙ rw (w, u, l, S .expansions-is, S .tests-is, sym (S .found-is) ∙ y) in
-      record {
-        row-is = r;
-        after-is = all-written (h .number) path₀ (rw r (searched-row p (length path₀)))
-            (T .path-is ∙ rw (T .row-is, w) (go (ltb (length path₀) (length (path p (search p .state))))));
-      }
-    where
-      go : (l : Bool) →
-          let q = path p (search p .state) in
-          written (not l) q path₀ ≡ written (eqb (unless noRoute (row l 7 (length q)) (found units (length q) legs (after .expansions) (after .tests)) .number) 0) q path₀
-      go true = refl
-      go false = refl
-
--- ---- the whole call
+use Rattle.answer.specs.Answers.{Route, noRoute, Slices, workRow, routeRow, slicesAfter, Routed}
+use Rattle.running.specs.Inner.{Ran}
 
 -- four lists with room for n entries
 pub rooms : (n w x y z : ℕ) → (ltb w n || (ltb x n || (ltb y n || ltb z n))) ≡ false → (n ≤ w) × (n ≤ x) × (n ≤ y) × (n ≤ z)

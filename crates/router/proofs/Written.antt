@@ -7,7 +7,7 @@ use native.Mathlib.Omega.{arith}
 use lib.ListN.{length, take, drop, List·getD-append}
 use lib.Seq.{take-at, drop-at}
 use Rattle.reach.specs.Turns.{at}
-use Rattle.router.specs.Answers.{written}
+use Rattle.answer.specs.Answers.{written}
 
 -- the slice gets these n new entries if the test passes
 pub record Filled (test : Bool) (n : ℕ) (new before after : List ℕ) : Type 0 where

@@ -13,7 +13,7 @@ use Rattle.reach.specs.Number.{Number, Number²}
 use Rattle.reach.specs.Reach.{Reach, NearPair}
 use Rattle.theta.specs.Demands.{IsRoute}
 use Rattle.problem.specs.Problem.{problem, RoundedDown}
-use Rattle.router.specs.Answers.{Route}
+use Rattle.answer.specs.Answers.{Route}
 
 -- single moves between visible neighbours join the start to v
 abbrev pub Joined : Board → (sx sy gx gy v : ℕ) → Type 0

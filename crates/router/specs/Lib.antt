@@ -1,3 +1,2 @@
 pub mod Answers
-pub mod Inside
 pub mod Demands

@@ -3,7 +3,7 @@ ghost use Prim.Native.Nat.{_≤_};
 ghost use lib.ListN.{length};
 ghost use Rattle.board.specs.Board.{board, vertices};
 ghost use Rattle.board.specs.Inner.{Sound, OnBoard};
-ghost use Rattle.table.specs.Lengths.{smallSide, middleSide, Known};
+ghost use Rattle.table.specs.Lengths.{Known};
 ghost use Rattle.theta.specs.Lent.{state, Searched};
 ghost use Rattle.problem.specs.Problem.{problem};
 ghost use Rattle.offers.specs.Request.{asked, sizeOf, diagonal, Asked};
@@ -14,10 +14,10 @@ use board::inner::number_of;
 use clearing::inner::begin;
 use entries::large_lengths;
 use entries::middle_lengths;
-use entries::small_lengths;
 use offers::Request;
 use open::list::GROUP;
 use open::list::open_vertex;
+use small::small_lengths;
 use table::MIDDLE_SIDE;
 use table::SMALL_SIDE;
 use tournament::tree::NO_KEY;
@@ -84,58 +84,8 @@ fn find_by(
     )
 }
 
-// The search on a small board, on a middle one, and on any: the table that is made for it is no longer than its board asks for.
-fn find_small(
-    cells: &[u8],
-    request: Request,
-    g: &mut [u64],
-    parents: &mut [Vertex],
-    marks: &mut [u8],
-    legs: &mut [Vertex],
-) -> Outcome
-    requires { ⌜ Asked (now cells) request ⌝ }
-    requires { ⌜ (sizeOf request ≤ length (now g)) × (sizeOf request ≤ length (now parents)) × (sizeOf request ≤ length (now marks)) × (sizeOf request ≤ length (now legs)) ⌝ }
-    requires { ⌜ (request .width ≤ smallSide) × (request .height ≤ smallSide) ⌝ }
-    ensures { λ r. ⌜ Searched (asked (now (cells .entry)) request) (state (now (g .entry)) (now (parents .entry)) (now (marks .entry)) (now (legs .entry)) 0 0) (state (now (g .exit)) (now (parents .exit)) (now (marks .exit)) (now (legs .exit)) (r .expansions) (r .tests)) (r .found) ⌝ }
-{
-    let table = small_lengths();
-    find_by(cells, request, g, parents, marks, legs, &table)
-}
-
-fn find_middle(
-    cells: &[u8],
-    request: Request,
-    g: &mut [u64],
-    parents: &mut [Vertex],
-    marks: &mut [u8],
-    legs: &mut [Vertex],
-) -> Outcome
-    requires { ⌜ Asked (now cells) request ⌝ }
-    requires { ⌜ (sizeOf request ≤ length (now g)) × (sizeOf request ≤ length (now parents)) × (sizeOf request ≤ length (now marks)) × (sizeOf request ≤ length (now legs)) ⌝ }
-    requires { ⌜ (request .width ≤ middleSide) × (request .height ≤ middleSide) ⌝ }
-    ensures { λ r. ⌜ Searched (asked (now (cells .entry)) request) (state (now (g .entry)) (now (parents .entry)) (now (marks .entry)) (now (legs .entry)) 0 0) (state (now (g .exit)) (now (parents .exit)) (now (marks .exit)) (now (legs .exit)) (r .expansions) (r .tests)) (r .found) ⌝ }
-{
-    let table = middle_lengths();
-    find_by(cells, request, g, parents, marks, legs, &table)
-}
-
-fn find_large(
-    cells: &[u8],
-    request: Request,
-    g: &mut [u64],
-    parents: &mut [Vertex],
-    marks: &mut [u8],
-    legs: &mut [Vertex],
-) -> Outcome
-    requires { ⌜ Asked (now cells) request ⌝ }
-    requires { ⌜ (sizeOf request ≤ length (now g)) × (sizeOf request ≤ length (now parents)) × (sizeOf request ≤ length (now marks)) × (sizeOf request ≤ length (now legs)) ⌝ }
-    ensures { λ r. ⌜ Searched (asked (now (cells .entry)) request) (state (now (g .entry)) (now (parents .entry)) (now (marks .entry)) (now (legs .entry)) 0 0) (state (now (g .exit)) (now (parents .exit)) (now (marks .exit)) (now (legs .exit)) (r .expansions) (r .tests)) (r .found) ⌝ }
-{
-    let table = large_lengths();
-    find_by(cells, request, g, parents, marks, legs, &table)
-}
-
-// The search from (sx, sy) to (gx, gy). It leaves in the lent slices what the definition has for each vertex.
+// The search from (sx, sy) to (gx, gy). It leaves in the lent slices what the definition has for each vertex. The table that is made
+// for it is no longer than its board asks for.
 pub fn find(
     cells: &[u8],
     width: usize,
@@ -163,10 +113,13 @@ pub fn find(
         gy,
     };
     if (width <= SMALL_SIDE) & (height <= SMALL_SIDE) {
-        return find_small(cells, request, g, parents, marks, legs);
+        let table = small_lengths();
+        return find_by(cells, request, g, parents, marks, legs, &table);
     }
     if (width <= MIDDLE_SIDE) & (height <= MIDDLE_SIDE) {
-        return find_middle(cells, request, g, parents, marks, legs);
+        let table = middle_lengths();
+        return find_by(cells, request, g, parents, marks, legs, &table);
     }
-    find_large(cells, request, g, parents, marks, legs)
+    let table = large_lengths();
+    find_by(cells, request, g, parents, marks, legs, &table)
 }

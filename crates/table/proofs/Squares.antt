@@ -11,8 +11,8 @@ use mir.Syntax.{w64}
 use mir.Val.{SFits, Fits, toZ, ofZ}
 use mir.ValLaws.{toZ-ofZ}
 use Rattle.board.specs.Limits.{largestSide}
-use Rattle.length.specs.Legs.{step}
-use Rattle.length.proofs.Legs.{step-size}
+use Rattle.spans.specs.Legs.{step}
+use Rattle.spans.proofs.Legs.{step-size}
 
 -- a small number keeps its value
 signed : (n : ℕ) → n ≤ largestSide → toZ w64 n ≡ pos n

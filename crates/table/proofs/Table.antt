@@ -11,9 +11,9 @@ use lib.ListN.{length, getD}
 use borrow.Author.Tests.{leb-false, le-leb}
 use Rattle.laws.proofs.Tests.{order}
 use Rattle.board.specs.Limits.{largestSide}
-use Rattle.length.specs.Legs.{step}
+use Rattle.spans.specs.Legs.{step}
 use Rattle.length.specs.Units.{square, unitsOf}
-use Rattle.length.proofs.Root.{below}
+use Rattle.root.proofs.Root.{below}
 use Rattle.length.proofs.Units.{units-one, units-bounds}
 use Rattle.table.specs.Lengths.{squares, Known}
 use Rattle.table.proofs.Squares.{square-most}

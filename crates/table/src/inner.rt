@@ -3,7 +3,7 @@ ghost use mathlib.Core.Path.{_≡_};
 ghost use Prim.Native.Nat.{_*_, _≤_};
 ghost use lib.IntN.{natAbs};
 ghost use Rattle.board.specs.Limits.{largestSide};
-ghost use Rattle.length.specs.Legs.{step};
+ghost use Rattle.spans.specs.Legs.{step};
 ghost use Rattle.length.specs.Units.{square, unitsOf, units};
 ghost use Rattle.table.specs.Lengths.{Known};
 use crate::LARGE;

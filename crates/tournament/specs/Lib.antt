@@ -1,4 +1,3 @@
-pub mod Ranks
 pub mod Contest
 pub mod Tournament
 pub mod Nodes

@@ -1,3 +1,2 @@
 // A tournament of vertices: each node has the open vertex under it that is taken first.
-pub mod order;
 pub mod tree;

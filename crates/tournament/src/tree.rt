@@ -5,9 +5,9 @@ ghost use lib.ListN.{length};
 ghost use Rattle.reach.specs.Turns.{at};
 ghost use Rattle.theta.specs.Order.{ranked};
 ghost use Rattle.tournament.specs.Nodes.{Room, Seated, Won, Entered, Renewed};
-ghost use Rattle.tournament.specs.Ranks.{numbers, seen};
-use crate::order::ahead;
+ghost use Rattle.ranks.specs.Ranks.{numbers, seen};
 use board::Vertex;
+use ranks::inner::ahead;
 
 // The key of a node under which no vertex is open.
 pub const NO_KEY: u64 = 0xffff_ffff_ffff_ffff;

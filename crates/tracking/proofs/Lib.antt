@@ -1,1 +1,3 @@
-pub mod Refused
+mod Refused
+mod Calls
+pub mod Determined

@@ -1,1 +1,2 @@
 pub mod Tracking
+pub mod Calls

@@ -5,11 +5,10 @@ use mathlib.Core.Bool.{Bool, true, false}
 use mathlib.Core.List.{List, _++_}
 use Prim.Native.Nat.{ℕ, suc, _+_, _^_, _≤_, _<_}
 use native.Mathlib.Omega.{arith}
-use lib.ListN.{length, set, replicate, drop, length-set, length-append, length-replicate, getD-replicate, List·getD-append}
+use lib.ListN.{length, set, replicate, drop, length-append, length-replicate, getD-replicate, List·getD-append}
 use lib.Seq.{set-getD}
-use Rattle.board.specs.Board.{number, numberOf, columnOf, rowOf}
-use Rattle.board.specs.Inner.{OnBoard}
-use Rattle.board.proofs.Numbers.{number-below, number-back, column-number, row-number, column-on, row-on}
+use Rattle.board.specs.Board.{number}
+use Rattle.board.proofs.Numbers.{number-below, column-number, row-number}
 use Rattle.theta.specs.Order.{Contest, least}
 use Rattle.tournament.specs.Contest.{noKey}
 use Rattle.open.specs.Groups.{nodesOf}
@@ -17,16 +16,16 @@ use Rattle.open.specs.Marked.{toGoal, boardContest, Sited, Blank, Lower, Opens}
 use Rattle.open.proofs.Listing.{listed-empty, listed-least, listed-on, listed-none, no-stale-key}
 use Rattle.reach.specs.Turns.{at, vertex, Result, turns}
 use Rattle.offers.specs.declared.Request.{Request}
-use Rattle.offers.specs.declared.Spot.{Spot}
 use Rattle.theta.specs.Search.{State, initial, contestOf, basic, choose}
 use Rattle.theta.specs.Fair.{Fair, FairLegs}
 use Rattle.theta.specs.Lent.{state, counting, marked, Searched, Rounded, Begun, Begins}
 use Rattle.problem.specs.Problem.{problem}
 use Rattle.problem.specs.Sizes.{longest}
-use Rattle.offers.specs.Request.{boardOf, asked, sizeOf, Asked, Placed}
+use Rattle.offers.specs.Request.{boardOf, asked, sizeOf, Asked}
 use Rattle.clearing.specs.Clearing.{Cleared}
-use Rattle.turns.specs.Turns.{Taking}
-use Rattle.offers.specs.Offers.{Taken, ListedFor}
+use Rattle.taking.specs.Taking.{Taking}
+use Rattle.taking.proofs.Taking.{sited}
+use Rattle.offers.specs.Offers.{ListedFor}
 use Rattle.theta.proofs.Begins.{beyond, begins-initial, begins-beyond, beyond-initial}
 use Rattle.theta.proofs.Choosing.{chosen-nothing, chosen-arrived, chosen-vertex}
 use Rattle.theta.proofs.Held.{Going, tests-bound, going-start, going-nothing, going-arrived, going-room}
@@ -43,14 +42,6 @@ pub record Finding (cells : List ℕ) (q : Request) (whole : Result State) (s : 
 -- what the loop's beginning makes of the whole
 abbrev pub wholeFrom : List ℕ → Request → State → Result State
 wholeFrom cells q s = turns (basic (asked cells q)) (suc (sizeOf q)) s
-
--- a vertex number's place
-placed-number : (cells : List ℕ) (q : Request) (s : Spot) (v : ℕ) → v < sizeOf q
-    → (s .x ≡ columnOf (q .width) v) × (s .y ≡ rowOf (q .width) v) × (s .number ≡ v) → Placed (boardOf cells q) s
-placed-number cells q s v l e = record {
-  on = record { x-on = omega (arith, e .0, column-on (q .width) v); y-on = omega (arith, e .1, row-on (q .width) (q .height) v l) };
-  numbered = e .2 ∙ sym (rw (e .0, e .1) (number-back (q .width) v));
-}
 
 -- zeros, and what lies beyond them
 zeros-then : (n : ℕ) (l : List ℕ) (v : ℕ) → v < n → at (replicate n 0 ++ drop n l) v ≡ 0
@@ -71,17 +62,6 @@ module _ {cells : List ℕ} {q : Request} (A : Asked cells q) where
 
   legs : FairLegs (asked cells q) (longest (q .width) (q .height))
   legs = board-legs (boardOf cells q) (q .sx) (q .sy) (q .gx) (q .gy)
-
-  -- a vertex and the goal
-  sited : {x y : ℕ} → OnBoard (boardOf cells q) x y → Sited (q .width) (q .height) x y (q .gx) (q .gy)
-  sited P = record {
-    narrow = A .sound .narrow;
-    low = A .sound .low;
-    column = P .x-on;
-    row = P .y-on;
-    goal-x = A .goal .x-on;
-    goal-y = A .goal .y-on;
-  }
 
   -- ---- the beginning
 
@@ -114,10 +94,10 @@ module _ {cells : List ℕ} {q : Request} (A : Asked cells q) where
 
   -- the start and the goal are on the board
   pub start-sited : Sited (q .width) (q .height) (q .sx) (q .sy) (q .gx) (q .gy)
-  start-sited = sited (A .start)
+  start-sited = sited A (A .start)
 
   goal-sited : Sited (q .width) (q .height) (q .gx) (q .gy) (q .gx) (q .gy)
-  goal-sited = sited (A .goal)
+  goal-sited = sited A (A .goal)
 
   -- no vertex is seen: the open list is empty, and the start can be opened
   module _ {start : ℕ} (at-start : start ≡ number (boardOf cells q) (q .sx) (q .sy)) {before after : State}
@@ -213,32 +193,3 @@ module _ {cells : List ℕ} {q : Request} (A : Asked cells q) where
             → ListedFor q (r .g) (r .mark) (r .legs) leads′ keys′ → Finding cells q whole (counting (s .expansions + 1) r) leads′ keys′
         unfolding problem
         finding-next R D = record { going = going-round fair legs (W .going) v chosen R; listed = D }
-
--- ---- a vertex is expanded
-
-pub taking-on : {cells : List ℕ} {q : Request} {v : ℕ} {s : State} → Taking cells q v s
-    → (v < sizeOf q) × (at (s .parent) v < sizeOf q) × (sizeOf q ≤ length (s .parent)) × (v < length (s .mark))
-unfolding problem
-taking-on T = (T .ready .on, T .ready .on-parent, T .ready .room-p, omega (arith, T .ready .on, rw length-set at (T .ready .room-m)))
-
-module _ {cells : List ℕ} {q : Request} (A : Asked cells q) {v : ℕ} {s : State} (T : Taking cells q v s) {u : Spot}
-    (U : (u .x ≡ columnOf (q .width) v) × (u .y ≡ rowOf (q .width) v) × (u .number ≡ v)) where
-  placed : Placed (boardOf cells q) u
-  placed = placed-number cells q u v (taking-on T .0) U
-
-  pub taking-sited : Sited (q .width) (q .height) (u .x) (u .y) (q .gx) (q .gy)
-  taking-sited = sited A (placed .on)
-
-  pub taking-number : v ≡ numberOf (q .width) (u .x) (u .y)
-  taking-number = sym (U .2) ∙ placed .numbered
-
-  pub taking-taken : {from : Spot}
-      → (from .x ≡ columnOf (q .width) (at (s .parent) v)) × (from .y ≡ rowOf (q .width) (at (s .parent) v)) × (from .number ≡ at (s .parent) v)
-      → Taken cells q u from (marked v s)
-  taking-taken {from} E = record {
-    asked-for = A;
-    placed = placed;
-    placed-parent = placed-number cells q from (at (s .parent) v) (taking-on T .1) E;
-    parent-is = rw (U .2) (sym (E .2));
-    ready = rw (U .2) (T .ready);
-  }

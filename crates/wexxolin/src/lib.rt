@@ -1,72 +1,69 @@
-// The calls for C, as include/wexxolin.h declares them.
+// The calls for C, as include/wexxolin.h declares them. Each passes its parameters on to a call for C below, which tells what a call
+// answers; the route and the check do so here, since to prove that many slices are passed on takes seconds each time.
 ghost use mathlib.Core.Path.{_≡_};
 ghost use Rattle.board.specs.Board.{board};
-ghost use Rattle.length.specs.Answers.{lengthRow, lengthBetweenRow, directionRow, directionBetweenRow};
+ghost use Rattle.direction.specs.Answers.{directionRow, directionBetweenRow};
+ghost use Rattle.length.specs.Answers.{lengthRow, lengthBetweenRow};
 ghost use Rattle.sight.specs.Answers.{sightRow};
 ghost use Rattle.router.specs.Answers.{slices};
 ghost use Rattle.job.specs.Answers.{netRow};
 ghost use Rattle.packed.specs.Answers.{countRow};
-ghost use Rattle.packing.specs.Packing.{toldCount};
 ghost use Rattle.tracks.specs.Layout as layout;
 ghost use Rattle.bureau.specs.Answers as bureau;
-ghost use Rattle.measuring.specs.Measuring.{toldSight, toldLength, toldDirection};
-ghost use Rattle.told.specs.Told.{toldNet};
+ghost use Rattle.version.specs.Version.{version};
+ghost use Rattle.sighting.specs.Sighting.{toldSight};
+ghost use Rattle.measuring.specs.Measuring.{toldLength};
+ghost use Rattle.aiming.specs.Aiming.{toldDirection};
+ghost use Rattle.routing.specs.Calls.{RoutedForC};
+ghost use Rattle.reading.specs.Reading.{toldNet};
+ghost use Rattle.reading.specs.Calls.{ReadForC};
+ghost use Rattle.packing.specs.Calls.{UnpackedForC, PackedForC};
+ghost use Rattle.counting.specs.Counting.{toldCount};
+ghost use Rattle.tracking.specs.Calls.{RoutesReadForC};
+ghost use Rattle.recording.specs.Calls.{RoutesWrittenForC, PointsForC};
+ghost use Rattle.approval.specs.Calls.{CheckedForC};
 ghost use Rattle.printing.specs.Printing.{printed};
-ghost use Rattle.wexxolin.specs.Version.{version};
-ghost use Rattle.wexxolin.specs.Calls.{RoutedForC, ReadForC, UnpackedForC, PackedForC, LineForC, RoutesReadForC, RoutesWrittenForC, PointsForC, CheckedForC};
+ghost use Rattle.printing.specs.Calls.{LineForC};
+use aiming::Toward;
+use aiming::inner::direction_between_for_c;
+use aiming::inner::direction_for_c;
 use approval::Approval;
 use approval::inner::tell_check;
 use approve::approve;
 use board::Vertex;
-use corners::path_points;
-use job::read_board;
-use job::read_net;
-use length::Direction;
-use length::Length;
+use counting::Counted;
+use counting::inner::count_packed_for_c;
 use measuring::Long;
-use measuring::Seen;
-use measuring::Toward;
-use measuring::inner::tell_direction;
-use measuring::inner::tell_length;
-use measuring::inner::tell_sight;
-use packed::count_blocked;
-use packed::read_cells;
-use packed::write_packed;
-use packing::Counted;
+use measuring::inner::length_between_for_c;
+use measuring::inner::length_for_c;
 use packing::Packing;
-use packing::inner::tell_count;
-use packing::inner::tell_read;
-use packing::inner::tell_written;
+use packing::inner::pack_for_c;
+use packing::inner::unpack_for_c;
 use printing::Printed;
-use printing::inner::line_for;
-use printing::inner::tell_line;
-use readback::read_routes;
+use printing::inner::line_for_c;
+use reading::Net;
+use reading::Sides;
+use reading::inner::board_for_c;
+use reading::inner::net_for_c;
+use recording::Recorded;
+use recording::Turned;
+use recording::inner::path_points_for_c;
+use recording::inner::write_routes_for_c;
 use router::route;
-use sight::sight;
-use told::Found;
-use told::Net;
-use told::Sides;
-use told::inner::tell_board;
-use told::inner::tell_net;
-use told::inner::tell_route;
-use tracking::Recorded;
+use routing::Found;
+use routing::inner::tell_route;
+use sighting::Seen;
+use sighting::inner::sight_for_c;
 use tracking::Routes;
-use tracking::Turned;
-use tracking::inner::tell_points;
-use tracking::inner::tell_records;
-use tracking::inner::tell_routes;
-use writeback::write_routes;
-use writing::write_line;
-
-// The version of the library, 20200 for 2.2.0.
-const VERSION: u64 = 20200;
+use tracking::inner::read_routes_for_c;
+use version::library_version;
 
 // Which version the library is.
 #[no_mangle]
 pub extern "C" fn wexxolin_version() -> u64
     ensures { λ r. ⌜ r ≡ version ⌝ }
 {
-    VERSION
+    library_version()
 }
 
 // What stops the leg from (ax, ay) to (bx, by) first.
@@ -82,7 +79,7 @@ pub extern "C" fn wexxolin_sight_1(
 ) -> Seen
     ensures { λ r. ⌜ r ≡ toldSight (sightRow (board (now (cells .entry)) width height) ax ay bx by) ⌝ }
 {
-    tell_sight(sight(cells, width, height, ax, ay, bx, by))
+    sight_for_c(cells, width, height, ax, ay, bx, by)
 }
 
 // The length of a leg by its differences.
@@ -90,7 +87,7 @@ pub extern "C" fn wexxolin_sight_1(
 pub extern "C" fn wexxolin_length_1(dx: i32, dy: i32) -> Long
     ensures { λ r. ⌜ r ≡ toldLength (lengthRow dx dy) ⌝ }
 {
-    tell_length(Length::of(dx, dy))
+    length_for_c(dx, dy)
 }
 
 // The length of a leg by its vertices.
@@ -98,7 +95,7 @@ pub extern "C" fn wexxolin_length_1(dx: i32, dy: i32) -> Long
 pub extern "C" fn wexxolin_length_between_1(ax: usize, ay: usize, bx: usize, by: usize) -> Long
     ensures { λ r. ⌜ r ≡ toldLength (lengthBetweenRow ax ay bx by) ⌝ }
 {
-    tell_length(Length::between(ax, ay, bx, by))
+    length_between_for_c(ax, ay, bx, by)
 }
 
 // The direction of a leg by its differences.
@@ -106,7 +103,7 @@ pub extern "C" fn wexxolin_length_between_1(ax: usize, ay: usize, bx: usize, by:
 pub extern "C" fn wexxolin_direction_1(dx: i32, dy: i32) -> Toward
     ensures { λ r. ⌜ r ≡ toldDirection (directionRow dx dy) ⌝ }
 {
-    tell_direction(Direction::of(dx, dy))
+    direction_for_c(dx, dy)
 }
 
 // The direction of a leg by its vertices.
@@ -114,7 +111,7 @@ pub extern "C" fn wexxolin_direction_1(dx: i32, dy: i32) -> Toward
 pub extern "C" fn wexxolin_direction_between_1(ax: usize, ay: usize, bx: usize, by: usize) -> Toward
     ensures { λ r. ⌜ r ≡ toldDirection (directionBetweenRow ax ay bx by) ⌝ }
 {
-    tell_direction(Direction::between(ax, ay, bx, by))
+    direction_between_for_c(ax, ay, bx, by)
 }
 
 // The route from (sx, sy) to (gx, gy).
@@ -156,7 +153,7 @@ pub extern "C" fn wexxolin_route_2(
 pub extern "C" fn wexxolin_board_1(job: &[u8], board: &mut [u8]) -> Sides
     ensures { λ r. ⌜ ReadForC (now (job .entry)) (now (board .entry)) r (now (board .exit)) ⌝ }
 {
-    tell_board(read_board(job, board))
+    board_for_c(job, board)
 }
 
 // A job's net by its index from 0.
@@ -164,7 +161,7 @@ pub extern "C" fn wexxolin_board_1(job: &[u8], board: &mut [u8]) -> Sides
 pub extern "C" fn wexxolin_net_1(job: &[u8], index: usize) -> Net
     ensures { λ r. ⌜ r ≡ toldNet (netRow (now (job .entry)) index) ⌝ }
 {
-    tell_net(read_net(job, index))
+    net_for_c(job, index)
 }
 
 // Packed bytes into cells.
@@ -177,7 +174,7 @@ pub extern "C" fn wexxolin_unpack_1(
 ) -> Packing
     ensures { λ r. ⌜ UnpackedForC (now (packed .entry)) width height (now (cells .entry)) r (now (cells .exit)) ⌝ }
 {
-    tell_read(read_cells(packed, width, height, cells))
+    unpack_for_c(packed, width, height, cells)
 }
 
 // Cells into packed bytes.
@@ -190,7 +187,7 @@ pub extern "C" fn wexxolin_pack_1(
 ) -> Packing
     ensures { λ r. ⌜ PackedForC (board (now (cells .entry)) width height) (now (packed .entry)) r (now (packed .exit)) ⌝ }
 {
-    tell_written(write_packed(cells, width, height, packed))
+    pack_for_c(cells, width, height, packed)
 }
 
 // How many cells of packed bytes are blocked.
@@ -198,7 +195,7 @@ pub extern "C" fn wexxolin_pack_1(
 pub extern "C" fn wexxolin_count_packed_1(packed: &[u8], width: usize, height: usize) -> Counted
     ensures { λ r. ⌜ r ≡ toldCount (countRow (now (packed .entry)) width height) ⌝ }
 {
-    tell_count(count_blocked(packed, width, height))
+    count_packed_for_c(packed, width, height)
 }
 
 // A route file into slices of routes.
@@ -212,7 +209,7 @@ pub extern "C" fn wexxolin_read_routes_1(
 ) -> Routes
     ensures { λ r. ⌜ RoutesReadForC (now (file .entry)) (layout.slices (now (nets .entry)) (now (counts .entry)) (now (xs .entry)) (now (ys .entry))) r (layout.slices (now (nets .exit)) (now (counts .exit)) (now (xs .exit)) (now (ys .exit))) ⌝ }
 {
-    tell_routes(read_routes(file, nets, counts, xs, ys))
+    read_routes_for_c(file, nets, counts, xs, ys)
 }
 
 // Slices of routes into a route file.
@@ -226,7 +223,7 @@ pub extern "C" fn wexxolin_write_routes_1(
 ) -> Recorded
     ensures { λ r. ⌜ RoutesWrittenForC (layout.slices (now (nets .entry)) (now (counts .entry)) (now (xs .entry)) (now (ys .entry))) (now (file .entry)) r (now (file .exit)) ⌝ }
 {
-    tell_records(write_routes(nets, counts, xs, ys, file))
+    write_routes_for_c(nets, counts, xs, ys, file)
 }
 
 // A path's vertex numbers into x and y.
@@ -239,7 +236,7 @@ pub extern "C" fn wexxolin_path_points_1(
 ) -> Turned
     ensures { λ r. ⌜ PointsForC (now (path .entry)) width (now (xs .entry)) (now (ys .entry)) r (now (xs .exit)) (now (ys .exit)) ⌝ }
 {
-    tell_points(path_points(path, width, xs, ys))
+    path_points_for_c(path, width, xs, ys)
 }
 
 // The layout bureau's routes beside a job.
@@ -286,6 +283,16 @@ pub extern "C" fn wexxolin_line_1(
 ) -> Printed
     ensures { λ r. ⌜ LineForC (printed net number place second units expansions tests width (now (path .entry))) (now (out .entry)) r (now (out .exit)) ⌝ }
 {
-    let line = line_for(net, number, place, second, units, expansions, tests);
-    tell_line(write_line(line, width, path, out))
+    line_for_c(
+        net,
+        number,
+        place,
+        second,
+        units,
+        expansions,
+        tests,
+        width,
+        path,
+        out,
+    )
 }

@@ -4,7 +4,7 @@ use mathlib.Core.List.{[], _∷_}
 use Rattle.laws.specs.Below.{every, some, firstWhere}
 use Rattle.board.specs.Board.{blocked}
 use Rattle.board.specs.Handed.{refused, judged, firstBad, boardRows, endRows}
-use Rattle.length.specs.Root.{root, rootIn}
+use Rattle.root.specs.Root.{root, rootIn}
 use Rattle.length.specs.Units.{unitsOf}
 use Rattle.legs.specs.Pinched.{pinched, admitted}
 use Rattle.legs.specs.Sight.{side, positive, negative, someCorner, spans, crossed, cellsFree, rowWall, columnWall, between, edgesOpen, strictlyInside, verticesOpen, sees}

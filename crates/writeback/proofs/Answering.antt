@@ -1,6 +1,6 @@
 -- What the writer answers, and what the slice holds then. Assumes nothing.
-use Prim.Native.Nat.{ℕ, _*_, _≤_}
-use mathlib.Core.Path.{_≡_, refl, sym, ap, _∙_}
+use Prim.Native.Nat.{ℕ, _*_}
+use mathlib.Core.Path.{_≡_, sym, ap, _∙_}
 use mathlib.Core.Bool.{Bool, true, false, _||_}
 use mathlib.Core.List.{List}
 use native.Mathlib.Omega.{arith}
@@ -12,11 +12,12 @@ use Rattle.board.specs.Handed.{Verdict, passes, refused}
 use Rattle.records.specs.Records.{records}
 use Rattle.tracks.specs.declared.WriteAnswer.the-variants.{Written, Order, Short}
 use Rattle.tracks.specs.Faults.{fileRows}
-use Rattle.tracks.specs.Layout.{Slices, slices, pointsBefore}
+use Rattle.tracks.specs.Layout.{Slices}
 use Rattle.tracks.specs.Answers.{laid, handedWrite, fileFor, isLacking, writeRows, writeRow, fileAfter, RoutesWritten}
-use Rattle.writeback.specs.declared.Measured.{Measured}
-use Rattle.writeback.specs.declared.Measured.the-variants.{Fits, Wrong}
-use Rattle.writeback.specs.Inner.{Right, MeasuredAs, Fitting}
+use Rattle.tally.specs.declared.Measured.{Measured}
+use Rattle.tally.specs.declared.Measured.the-variants.{Fits, Wrong}
+use Rattle.tally.specs.Inner.{Right, MeasuredAs}
+use Rattle.laying.specs.Inner.{Fitting}
 
 -- ---- it is wrong at a record
 

@@ -1,19 +1,11 @@
 // The writer of route files: slices of net numbers, counts of points, and the points' x and y into records.
 ghost use Rattle.tracks.specs.Layout.{slices};
 ghost use Rattle.tracks.specs.Answers.{handedWrite, RoutesWritten};
-use lay::lay_routes;
-use measure::measure;
+use laying::inner::lay_routes;
 use records::RECORD;
+use tally::Measured;
+use tally::inner::measure;
 use tracks::WriteAnswer;
-
-mod lay;
-mod measure;
-
-// What is known of the routes before they are written: how many records and points there are, or the record that is wrong.
-pub enum Measured {
-    Fits { records: usize, points: usize },
-    Wrong(usize),
-}
 
 // Writes the records of these routes into the lent slice: net after net, each with its points, or as none where its count is 0.
 pub fn write_routes(

@@ -7,8 +7,8 @@ use borrow.Author.Needs.{needs}
 use lib.ListN.{length, getD, drop}
 use Rattle.board.specs.Board.{columnOf, rowOf}
 use Rattle.board.proofs.Numbers.{column-on}
-use Rattle.packed.specs.Packed.{entries}
-use Rattle.packed.proofs.Entries.{entries-none, kept-length, written-next}
+use Rattle.bits.specs.Packed.{entries}
+use Rattle.bits.proofs.Entries.{entries-none, kept-length, written-next}
 use Rattle.corners.proofs.Points.{is-on}
 use Rattle.corners.proofs.tell_points.Statement.{statement}
 use Rattle.corners.proofs.tell_points.Tie as tie

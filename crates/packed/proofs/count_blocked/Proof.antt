@@ -4,11 +4,12 @@ use borrow.Author.Needs.{needs}
 use Prim.Native.Nat.{ℕ}
 use Rattle.board.specs.Handed.{passes}
 use Rattle.packed.specs.declared.CountAnswer.the-variants.{Blocked}
-use Rattle.packed.specs.Answers.{packedRows, handedCount}
-use Rattle.packed.specs.Inner.{verdict}
-use Rattle.packed.proofs.Rows.{bytes-few}
-use Rattle.packed.proofs.Counting.{bits-blocked}
-use Rattle.packed.proofs.Answering.{Known, packed-known, counted-refused, counted-done}
+use Rattle.packed.specs.Answers.{handedCount}
+use Rattle.filling.specs.Filling.{packedRows, verdict}
+use Rattle.filling.proofs.Checking.{Known, packed-known}
+use Rattle.bits.proofs.Rows.{bytes-few}
+use Rattle.bits.proofs.Counting.{bits-blocked}
+use Rattle.packed.proofs.Answering.{counted-refused, counted-done}
 use Rattle.packed.proofs.count_blocked.Statement.{statement}
 use Rattle.packed.proofs.count_blocked.Tie as tie
 

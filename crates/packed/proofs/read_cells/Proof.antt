@@ -5,12 +5,13 @@ use native.Mathlib.Omega.{arith}
 use borrow.Author.Needs.{needs}
 use lib.ListN.{length}
 use Rattle.board.specs.Handed.{passes}
-use Rattle.packed.specs.Packed.{cellOf}
-use Rattle.packed.specs.Answers.{packedRows, packedRow, readRows}
-use Rattle.packed.specs.Inner.{verdict}
-use Rattle.packed.proofs.Entries.{entries-length}
-use Rattle.packed.proofs.Rows.{cells-few}
-use Rattle.packed.proofs.Answering.{Known, packed-known, packed-refuses, wrote-kept, wrote-short, wrote-done}
+use Rattle.bits.specs.Packed.{cellOf}
+use Rattle.packed.specs.Answers.{readRows}
+use Rattle.filling.specs.Filling.{packedRows, packedRow, verdict}
+use Rattle.filling.proofs.Checking.{Known, packed-known, packed-refuses}
+use Rattle.bits.proofs.Entries.{entries-length}
+use Rattle.bits.proofs.Rows.{cells-few}
+use Rattle.packed.proofs.Answering.{wrote-kept, wrote-short, wrote-done}
 use Rattle.packed.proofs.read_cells.Statement.{statement}
 use Rattle.packed.proofs.read_cells.Tie as tie
 

@@ -7,10 +7,10 @@ use denote.Ref.{now}
 use lib.ListN.{length}
 use Rattle.board.specs.Board.{Board, board}
 use Rattle.board.specs.Handed.{passes, boardRows, refusalRow, verdict}
-use Rattle.packed.specs.Packed.{packedBytes, byteFrom}
+use Rattle.bits.specs.Packed.{packedBytes, byteFrom}
 use Rattle.packed.specs.Answers.{writeRows}
-use Rattle.packed.proofs.Entries.{entries-length}
-use Rattle.packed.proofs.Rows.{bytes-few}
+use Rattle.bits.proofs.Entries.{entries-length}
+use Rattle.bits.proofs.Rows.{bytes-few}
 use Rattle.packed.proofs.Answering.{board-sides, board-full, board-bits, board-refuses}
 use Rattle.packed.proofs.Answering.{wrote-kept, wrote-short, wrote-done}
 use Rattle.packed.proofs.write_packed.Statement.{statement}

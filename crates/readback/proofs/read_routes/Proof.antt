@@ -1,7 +1,5 @@
 -- `readback::read_routes` answers by the rows 11, 13, 23, 22 and 21, and writes the routes where they pass.
 use borrow.Author.Needs.{needs}
-use Rattle.board.specs.Handed.{passes}
-use Rattle.records.specs.Records.{records}
 use Rattle.tracks.specs.Layout.{Slices, slices}
 use Rattle.readback.proofs.Answering.{read-refused, passed, read-short, read-room, read-done}
 use Rattle.readback.proofs.read_routes.Statement.{statement}

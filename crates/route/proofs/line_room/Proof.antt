@@ -1,6 +1,6 @@
 -- `route::line_room`: the constant is the definition's number.
 use mathlib.Core.Path.{sym}
-use Rattle.route.proofs.Limits.{line-room}
+use Rattle.netroute.proofs.Limits.{line-room}
 use Rattle.route.proofs.line_room.Statement.{statement}
 use Rattle.route.proofs.line_room.Tie as tie
 

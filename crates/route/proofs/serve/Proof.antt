@@ -9,10 +9,10 @@ use denote.Ref.{now}
 use lib.ListN.{take, length-take}
 use Rattle.board.specs.Board.{board}
 use Rattle.board.specs.Inner.{Sound}
-use Rattle.route.specs.Inner.{Opened}
+use Rattle.nets.specs.Inner.{Opened}
 use Rattle.job.proofs.Above.{board-given, given-sound}
-use Rattle.route.proofs.Limits.{line-room}
-use Rattle.route.proofs.Answering.{opened}
+use Rattle.netroute.proofs.Limits.{line-room}
+use Rattle.nets.proofs.Answering.{opened}
 use Rattle.route.proofs.Refusing.{board-fits, board-refused}
 use Rattle.route.proofs.serve.Statement.{statement}
 use Rattle.route.proofs.serve.Tie as tie

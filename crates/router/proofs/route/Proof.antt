@@ -8,7 +8,7 @@ use Rattle.board.specs.Inner.{Sound}
 use Rattle.board.specs.Handed.{passes, verdict, legRows}
 use Rattle.board.proofs.Numbers.{vertices-few}
 use Rattle.board.proofs.Rows.{leg-sound, leg-first, leg-second}
-use Rattle.router.specs.Answers.{handedRoute, Slices, slices}
+use Rattle.answer.specs.Answers.{handedRoute, Slices, slices}
 use Rattle.router.proofs.Routing.{rooms, routed-refused, routed-short, routed-ran}
 use Rattle.router.proofs.route.Statement.{statement}
 use Rattle.router.proofs.route.Tie as tie

@@ -42,6 +42,14 @@ accepted c =
     let a = begun k .args in
     rows-pass (asked k) (a .ax) (a .ay) (a .bx) (a .by) (k .check-leg .result) (k .check-leg .ensures) (c .enum-told .given .1)
 
+-- what the walk stopped at is the row's value
+returns-2 : tie.Need-returns-2
+returns-2 c =
+    let w = c .before in
+    let k = w .before .before .before in
+    let a = begun k .args in
+    c .named .ensures ∙ stopped-as (asked k) (a .ax) (a .ay) (a .bx) (a .by) (accepted (w .before)) (w .first-stop .ensures)
+
 -- the board is sound, and either end is on it
 first-stop-requires : tie.Need-first-stop-requires
 first-stop-requires c κs =
@@ -52,14 +60,6 @@ first-stop-requires c κs =
     let first = leg-first (asked k) (a .ax) (a .ay) (a .bx) (a .by) e in
     let second = leg-second (asked k) (a .ax) (a .ay) (a .bx) (a .by) e in
     search (sound, first, second)
-
--- what the walk stopped at is the row's value
-returns-2 : tie.Need-returns-2
-returns-2 c =
-    let w = c .before in
-    let k = w .before .before .before in
-    let a = begun k .args in
-    c .named .ensures ∙ stopped-as (asked k) (a .ax) (a .ay) (a .bx) (a .by) (accepted (w .before)) (w .first-stop .ensures)
 
 pub sight-spec : {M : Type 1} → statement M
 sight-spec =

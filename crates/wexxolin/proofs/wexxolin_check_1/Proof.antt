@@ -1,6 +1,6 @@
 -- `wexxolin_check_1` checks the bureau's routes for C.
 use borrow.Author.Needs.{needs}
-use Rattle.wexxolin.proofs.Wrote.{checked-for-c}
+use Rattle.approval.proofs.Calls.{checked-for-c}
 use Rattle.wexxolin.proofs.wexxolin_check_1.Statement.{statement}
 use Rattle.wexxolin.proofs.wexxolin_check_1.Tie as tie
 

@@ -1,6 +1,6 @@
 -- `wexxolin_route_2` is the route call for C.
 use borrow.Author.Needs.{needs}
-use Rattle.wexxolin.proofs.Routed.{routed-for-c}
+use Rattle.routing.proofs.Calls.{routed-for-c}
 use Rattle.wexxolin.proofs.wexxolin_route_2.Statement.{statement}
 use Rattle.wexxolin.proofs.wexxolin_route_2.Tie as tie
 

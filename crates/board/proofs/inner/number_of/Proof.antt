@@ -5,6 +5,9 @@ use Rattle.board.proofs.Numbers.{number-fits}
 use Rattle.board.proofs.inner.number_of.Statement.{statement}
 use Rattle.board.proofs.inner.number_of.Tie as tie
 
+returns : tie.Need-returns
+returns c = search needs
+
 add-result : tie.Need-add-result
 add-result c = search needs
 
@@ -16,9 +19,6 @@ add-result-2 c = let a = c .args in omega (arith, number-fits (a .width) (a .x) 
 
 cast-result : tie.Need-cast-result
 cast-result c = let a = c .args in record { fits = number-fits (a .width) (a .x) (a .y) (c .pre .0) (c .pre .1) (c .pre .2) }
-
-returns : tie.Need-returns
-returns c = search needs
 
 pub number-of-spec : {M : Type 1} → statement M
 number-of-spec = tie.close (tie.spec add-result mul-result add-result-2 cast-result returns)

@@ -3,6 +3,7 @@ use mathlib.Core.List.{[]}
 use borrow.Author.Needs.{needs}
 use denote.Ref.{now}
 use Rattle.laws.proofs.Tests.{answered-no, answered-yes}
+use Rattle.bureau.specs.Answers.{Searching, searching}
 use Rattle.bureau.proofs.Answering.{odd-refused}
 use Rattle.judge.proofs.Judging.{odd-is, even-is, nets-stopped, rows-pass, nets-done}
 use Rattle.judge.proofs.inner.check_nets.Statement.{statement}
@@ -18,6 +19,13 @@ even k = k .before .before .before .before .before
 abbrev start : tie.After-odd-net → tie.Start
 start o = o .before .before .before .before .before .before .before .before .before .before
 
+-- what the work slices held at the start, and what the nets' searches leave in them
+abbrev lent : tie.Start → Searching
+lent s = let a = s .args in searching (now (a .g)) (now (a .parents)) (now (a .marks)) (now (a .legs))
+
+abbrev left-by : tie.After-judge-nets → Searching
+left-by k = let l = k .judge-nets .last .1 .1 .1 .1 .1 .1 in searching (l .0) (l .1 .0) (l .1 .1 .0) (l .1 .1 .1 .0)
+
 returns : tie.Need-returns
 returns c = odd-refused _ _ _ _ _ (odd-is _ _ (c .before .odd-net .ensures) (c .if1 .taken))
 
@@ -27,8 +35,9 @@ returns-2 c =
     let n = t .before in
     let k = ran n in
     let e = even k in
-    let a = start (e .before) .args in
-    nets-stopped (now (a .job)) (now (a .file)) _ _ (even-is _ _ (e .before .odd-net .ensures) (e .if1 .left)) (k .judge-nets .ensures)
+    let s = start (e .before) in
+    let a = s .args in
+    nets-stopped (now (a .job)) (now (a .file)) _ _ (even-is _ _ (e .before .odd-net .ensures) (e .if1 .left)) {w = lent s} {w′ = left-by k} (k .judge-nets .ensures)
     (answered-no (n .is-nothing .ensures) (t .if2 .taken)) (c .answer .ensures .0) (c .answer .ensures .1)
 
 write-results-requires : tie.Need-write-results-requires
@@ -38,16 +47,16 @@ write-results-requires c κs =
     let k = ran n in
     let e = even k in
     let s = start (e .before) in
-    let a = s .args in (
-      s .pre .0,
-      (
-        s .pre .1 .0 .sound,
-        (
-          rows-pass (now (a .job)) (now (a .file)) [] [] (even-is _ _ (e .before .odd-net .ensures) (e .if1 .left)) (k .judge-nets .ensures)
-              (answered-yes (n .is-nothing .ensures) (f .if2 .left)),
-          s .pre .1 .1,
-        ),
-      ),
+    let a = s .args in
+    let j = s .pre .0 in (
+      record {
+        accepted = j .accepted;
+        clean = j .clean;
+        right = rows-pass (now (a .job)) (now (a .file)) [] [] (even-is _ _ (e .before .odd-net .ensures) (e .if1 .left)) {w = lent s} {w′ = left-by k} (k .judge-nets .ensures)
+            (answered-yes (n .is-nothing .ensures) (f .if2 .left));
+        many-is = j .many-is;
+      },
+      s .pre .1 .1,
     )
 
 returns-3 : tie.Need-returns-3
@@ -59,7 +68,7 @@ returns-3 c =
     let e = even k in
     let s = start (e .before) in
     let a = s .args in
-    nets-done (now (a .job)) (now (a .file)) _ _ (even-is _ _ (e .before .odd-net .ensures) (e .if1 .left)) (k .judge-nets .ensures)
+    nets-done (now (a .job)) (now (a .file)) _ _ (even-is _ _ (e .before .odd-net .ensures) (e .if1 .left)) {w = lent s} {w′ = left-by k} (k .judge-nets .ensures)
     (answered-yes (n .is-nothing .ensures) (f .if2 .left)) (s .pre .0 .many-is) (r .write-results .ensures .0) (r .write-results .ensures .1)
 
 pub check-nets-spec : {M : Type 1} → statement M

@@ -9,8 +9,9 @@ use Rattle.records.specs.Records.{records}
 use Rattle.tracks.specs.Tracks.{isPoint, routesIn}
 use Rattle.tracks.proofs.Theorems.{all-records}
 use Rattle.bureau.specs.Nets.{pointsFor}
+use Rattle.bureau.specs.Answers.{Searching, searching}
 use Rattle.bureau.specs.Inner.{recordPoints}
-use Rattle.roster.proofs.Standing.{no-points, some-points, run-length, run-at}
+use Rattle.runs.proofs.Standing.{no-points, some-points, run-length, run-at}
 use Rattle.judge.proofs.Judging.{as-none, points-judged}
 use Rattle.judge.proofs.inner.judge_net.Statement.{statement}
 use Rattle.judge.proofs.inner.judge_net.Tie as tie
@@ -19,6 +20,10 @@ use Rattle.judge.proofs.inner.judge_net.Tie as tie
 abbrev start : tie.After-first-record → tie.Start
 start f = f .before .before .before .before .before .before .before
 
+-- what a search leaves in the work slices
+abbrev left-by : tie.After-judge-none → Searching
+left-by k = let l = k .judge-none .last .1 .1 .1 .1 in searching (l .0) (l .1 .0) (l .1 .1 .0) (l .1 .1 .1 .0)
+
 returns : tie.Need-returns
 returns c =
     let k = c .before .before .before .before .before .before .before .before in
@@ -26,7 +31,7 @@ returns c =
     let h = t .before in
     let f = h .before in
     let s = start f in
-    as-none
+    as-none {w = searching (now (s .args .g)) (now (s .args .parents)) (now (s .args .marks)) (now (s .args .legs))} {w′ = left-by k}
     (no-points (now (s .args .file)) (s .args .net .number) (all-records _ (s .pre .1 .1)) _ (f .first-record .ensures) (answered-no (h .has-point .ensures) (t .if1 .taken)))
     (k .judge-none .ensures)
 

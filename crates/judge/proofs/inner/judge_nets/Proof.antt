@@ -11,7 +11,7 @@ use Rattle.records.specs.Records.{inOrder}
 use Rattle.records.proofs.InOrder.{none-yet}
 use Rattle.tracks.specs.Tracks.{routesIn}
 use Rattle.bureau.specs.Nets.{netRow}
-use Rattle.bureau.specs.Answers.{searching, afterNets}
+use Rattle.bureau.specs.Answers.{Searching, searching, afterNets}
 use Rattle.bureau.specs.Inner.{Room, OnJob}
 use Rattle.bureau.proofs.Answering.{none-judged}
 use Rattle.judge.proofs.Judging.{room-same, ends-for, judged-next, judged-work, judged-stop, judged-done}
@@ -27,6 +27,10 @@ Inv-loop job file cells width height nets g₀ parents₀ marks₀ legs₀ index
 
 abbrev μ-loop : tie.MeasureT-loop
 μ-loop job file cells width height nets g₀ parents₀ marks₀ legs₀ index₀ g parents marks legs index = nets - index
+
+-- what a net's search leaves in the work slices
+abbrev left-by : tie.After-judge-net Inv-loop μ-loop → Searching
+left-by k = let l = k .judge-net .last .1 .1 .1 .1 .1 in searching (l .0) (l .1 .0) (l .1 .1 .0) (l .1 .1 .1 .0)
 
 loop-holds : tie.Need-loop-holds Inv-loop μ-loop
 unfolding afterNets
@@ -62,7 +66,7 @@ returns c =
     let k = n .before .before .before .before .before .before .before .before .before in
     let w = k .before .before .before .before .before in
     let l = w .before .before .loop in
-    judged-stop (l .inv .1) _ (l .index) (w .wanted-net .ensures) (l .inv .8) (l .inv .7) (k .judge-net .ensures) (omega (arith, l .inv .1 .many-is))
+    judged-stop (l .inv .1) _ (l .index) {w′ = left-by k} (w .wanted-net .ensures) (l .inv .8) (l .inv .7) (k .judge-net .ensures) (omega (arith, l .inv .1 .many-is))
     (answered-no (n .is-nothing .ensures) (c .if1 .taken))
 
 add-index : tie.Need-add-index Inv-loop μ-loop
@@ -84,8 +88,8 @@ loop-again c =
       omega arith,
       omega arith,
       omega arith,
-      judged-next (l .inv .1) _ (l .index) (w .wanted-net .ensures) (l .inv .8) (l .inv .7) (k .judge-net .ensures) (answered-yes (n .is-nothing .ensures) (c .if1 .left)),
-      judged-work (l .inv .1) _ (l .index) (w .wanted-net .ensures) (l .inv .8) (l .inv .7) (k .judge-net .ensures),
+      judged-next (l .inv .1) _ (l .index) {w′ = left-by k} (w .wanted-net .ensures) (l .inv .8) (l .inv .7) (k .judge-net .ensures) (answered-yes (n .is-nothing .ensures) (c .if1 .left)),
+      judged-work (l .inv .1) _ (l .index) {w′ = left-by k} (w .wanted-net .ensures) (l .inv .8) (l .inv .7) (k .judge-net .ensures),
     )
 
 same-length-5 : tie.Need-same-length-5 Inv-loop μ-loop

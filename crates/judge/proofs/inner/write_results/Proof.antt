@@ -5,30 +5,26 @@ use Prim.Native.Nat.{ℕ, _-_, _≤_}
 use native.Mathlib.Omega.{arith}
 use borrow.Author.Needs.{needs}
 use lib.ListN.{length, drop}
-use Rattle.board.specs.Board.{board}
-use Rattle.board.specs.Inner.{Sound}
-use Rattle.board.specs.Handed.{passes}
 use Rattle.kinds.specs.Job.{Net}
-use Rattle.packed.specs.Packed.{entries}
-use Rattle.packed.proofs.Entries.{entries-none, kept-length}
+use Rattle.bits.specs.Packed.{entries}
+use Rattle.bits.proofs.Entries.{entries-none, kept-length}
 use Rattle.tracks.specs.Tracks.{routesIn}
-use Rattle.bureau.specs.Nets.{netsRows, netUnits, netLegs}
-use Rattle.bureau.specs.Inner.{OnJob}
-use Rattle.judge.proofs.Judging.{board-is, net-passed, units-next, counts-next, result-done}
+use Rattle.bureau.specs.Nets.{netUnits, netLegs}
+use Rattle.bureau.specs.Inner.{AllRight}
+use Rattle.judge.proofs.Judging.{net-small, units-next, counts-next, result-done}
 use Rattle.judge.proofs.inner.write_results.Statement.{statement}
 use Rattle.judge.proofs.inner.write_results.Tie as tie
 
 abbrev Inv-loop : tie.InvT-loop
-Inv-loop job file cells width height nets units₀ counts₀ index₀ units counts index =
-    (index ≤ nets) × OnJob job file cells width height nets × Sound (board cells width height) × (netsRows job (routesIn file) ≡ passes)
-    × (nets ≤ length units₀) × (nets ≤ length counts₀)
+Inv-loop job file nets units₀ counts₀ index₀ units counts index =
+    (index ≤ nets) × AllRight job file nets × (nets ≤ length units₀) × (nets ≤ length counts₀)
     × (units ≡ entries index (netUnits job (routesIn file)) ++ drop index units₀) × (counts ≡ entries index (netLegs job (routesIn file)) ++ drop index counts₀)
 
 abbrev μ-loop : tie.MeasureT-loop
-μ-loop job file cells width height nets units₀ counts₀ index₀ units counts index = nets - index
+μ-loop job file nets units₀ counts₀ index₀ units counts index = nets - index
 
 loop-holds : tie.Need-loop-holds Inv-loop μ-loop
-loop-holds c = (omega arith, search needs, search needs, search needs, omega arith, omega arith, entries-none _ _, entries-none _ _)
+loop-holds c = (omega arith, search needs, omega arith, omega arith, entries-none _ _, entries-none _ _)
 
 wanted-net-requires : tie.Need-wanted-net-requires Inv-loop μ-loop
 wanted-net-requires c κs = let l = c .before .loop in (l .inv .1 .accepted, omega (arith, l .inv .1 .many-is))
@@ -37,13 +33,10 @@ write-net-requires : tie.Need-write-net-requires Inv-loop μ-loop
 write-net-requires c κs =
     let w = c .before .before in
     let l = w .before .before .loop in (
-      l .inv .2,
+      l .inv .1 .clean,
       (
-        l .inv .1 .clean,
-        (
-          net-passed _ _ (l .index) (board-is (l .inv .1)) (ap (λ (n : Net). n .number) (w .wanted-net .ensures)) (l .inv .3) (omega (arith, l .inv .1 .many-is)),
-          (omega (arith, l .inv .4, kept-length _ (l .index) _ (l .inv .6) (omega arith)), omega (arith, l .inv .5, kept-length _ (l .index) _ (l .inv .7) (omega arith))),
-        ),
+        net-small (l .index) (l .inv .1) (ap (λ (n : Net). n .number) (w .wanted-net .ensures)) (omega (arith, l .inv .1 .many-is)),
+        (omega (arith, l .inv .2, kept-length _ (l .index) _ (l .inv .4) (omega arith)), omega (arith, l .inv .3, kept-length _ (l .index) _ (l .inv .5) (omega arith))),
       ),
     )
 
@@ -63,22 +56,20 @@ loop-again c =
       l .inv .1,
       l .inv .2,
       l .inv .3,
-      l .inv .4,
-      l .inv .5,
-      units-next _ _ (l .index) _ (l .inv .6) number (k .write-net .ensures) (omega arith),
-      counts-next _ _ (l .index) _ (l .inv .7) number (k .write-net .ensures) (omega arith),
+      units-next _ _ (l .index) _ (l .inv .4) number (k .write-net .ensures) (omega arith),
+      counts-next _ _ (l .index) _ (l .inv .5) number (k .write-net .ensures) (omega arith),
     )
 
 same-length : tie.Need-same-length Inv-loop μ-loop
-same-length c = let l = c .before .loop in kept-length _ (l .index) _ (l .inv .6) (omega arith)
+same-length c = let l = c .before .loop in kept-length _ (l .index) _ (l .inv .4) (omega arith)
 
 same-length-2 : tie.Need-same-length-2 Inv-loop μ-loop
-same-length-2 c = let l = c .before .loop in kept-length _ (l .index) _ (l .inv .7) (omega arith)
+same-length-2 c = let l = c .before .loop in kept-length _ (l .index) _ (l .inv .5) (omega arith)
 
 returns : tie.Need-returns Inv-loop μ-loop
 returns c =
     let l = c .before .loop in
-    (result-done _ _ (l .inv .6) (omega (arith, l .inv .1 .many-is)), result-done _ _ (l .inv .7) (omega (arith, l .inv .1 .many-is)))
+    (result-done _ _ (l .inv .4) (omega (arith, l .inv .1 .many-is)), result-done _ _ (l .inv .5) (omega (arith, l .inv .1 .many-is)))
 
 pub write-results-spec : {M : Type 1} → statement M
 write-results-spec =

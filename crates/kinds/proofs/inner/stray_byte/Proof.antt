@@ -3,6 +3,9 @@ use Prim.Native.Nat.{_+_, _-_, _≤_}
 use mathlib.Core.Path.{_≡_}
 use mathlib.Core.Logic.{⊎-elim}
 use native.Mathlib.Omega.{arith}
+use lib.Dec.{eqb}
+use borrow.Author.Tests.{eqb-true}
+use Rattle.laws.proofs.Tests.{and-left, and-right}
 use Rattle.records.specs.Records.{recordBytes}
 use Rattle.records.proofs.Stray.{Lowest, lowest-begins, lowest-found, lowest-kept, lowest-ends}
 use Rattle.kinds.specs.Job.{usedBy}
@@ -33,9 +36,12 @@ loop-again c =
     let l = at .loop in
     let a = at .before .before .args in
     let s = c .before .is-stray .ensures in
+    let stray = c .before .is-stray .result in
     let next : Lowest (a .job .now) (usedBy (a .kind)) (a .i) (l .k + 1) (c .if1 .lowest) =
     ⊎-elim
-    (λ w. rw (w .1) (lowest-found _ _ _ s (omega arith) (w .0 .taken) (l .inv .1)))
+    (λ w.
+    let first-named : l .lowest ≡ recordBytes = eqb-true (l .lowest) recordBytes (and-right stray (eqb (l .lowest) recordBytes) (w .0 .taken)) in
+    rw (w .1) (lowest-found _ _ _ s (omega arith) (and-left stray (eqb (l .lowest) recordBytes) (w .0 .taken)) first-named (l .inv .1)))
     (λ w. rw (w .1) (lowest-kept _ _ _ s (w .0 .left) (l .inv .1)))
     (c .if1 .came) in
     (omega arith, next)

@@ -5,9 +5,9 @@ use borrow.Author.Needs.{needs}
 use Rattle.board.specs.Handed.{passes}
 use Rattle.length.specs.Units.{units}
 use Rattle.board.proofs.Verdicts.{accepted, refused-row, refusal-handed}
-use Rattle.length.specs.Legs.{step, vertexRows}
+use Rattle.spans.specs.Legs.{step, vertexRows}
 use Rattle.length.specs.Answers.{noLength, lengthBetweenRow}
-use Rattle.length.proofs.Legs.{OnLargest, small-as, small-both, vertices-on}
+use Rattle.spans.proofs.Legs.{OnLargest, small-as, small-both, vertices-on}
 use Rattle.length.proofs.Length.between.Statement.{statement}
 use Rattle.length.proofs.Length.between.Tie as tie
 

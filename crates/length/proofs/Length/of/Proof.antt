@@ -5,10 +5,10 @@ use borrow.Author.Needs.{needs}
 use Rattle.board.specs.Handed.{passes, verdict}
 use Rattle.length.specs.Units.{units}
 use Rattle.board.proofs.Verdicts.{accepted, refused-row, refusal-handed}
-use Rattle.length.specs.Legs.{differenceRows}
+use Rattle.spans.specs.Legs.{differenceRows}
 use Rattle.length.specs.Answers.{noLength, lengthRow}
-use Rattle.length.proofs.Signed.{narrow, narrowed}
-use Rattle.length.proofs.Legs.{small-as, differences-small}
+use Rattle.spans.proofs.Signed.{narrow, narrowed}
+use Rattle.spans.proofs.Legs.{small-as, differences-small}
 use Rattle.length.proofs.Length.of.Statement.{statement}
 use Rattle.length.proofs.Length.of.Tie as tie
 

@@ -1,18 +1,20 @@
 -- `looks::inner::look` does what the definition does for one vertex, and keeps the arrays right.
 use mathlib.Core.Path.{_≡_, sym, ap, _∙_}
 use mathlib.Core.Logic.{inl, inr, _≢_}
-use mathlib.Core.Bool.{true, false, cond}
+use mathlib.Core.Bool.{Bool, true, false, _||_, cond}
 use mathlib.Core.List.{List}
 use Prim.Native.Nat.{ℕ, _+_, _^_, _≤_, _<_}
 use native.Mathlib.Omega.{arith}
 use borrow.Author.Needs.{needs}
 use denote.Ref.{now}
+use lib.Dec.{eqb, ltb}
 use lib.ListN.{length, set, length-set}
 use Rattle.laws.proofs.Tests.{answered-no, answered-yes}
 use Rattle.board.specs.Limits.{mostVertices}
 use Rattle.legs.specs.Sight.{sees}
 use Rattle.table.proofs.Table.{known-leg}
 use Rattle.reach.specs.Turns.{at}
+use Rattle.theta.specs.Order.{lessOr}
 use Rattle.theta.specs.Search.{Problem, State}
 use Rattle.theta.specs.Lent.{state}
 use Rattle.problem.specs.Problem.{problem}
@@ -182,6 +184,17 @@ slice-read-had c = let s = found (c .before .before) in omega (arith, on s, s .p
 wins-requires : tie.Need-wins-requires
 wins-requires c κs = tt
 
+-- what `wins` is asked, and that this is what it answers
+abbrev better : tie.After-wins → Bool
+better x =
+    let b = counted x in
+    let a = found b .args in
+    let v = a .w .number in
+    eqb (at (now (a .marks)) v) 0 || lessOr (candidate-g (measured b)) (at (now (a .g)) v) (ltb (b .legs-by .result) (at (now (a .legs)) v))
+
+better-is : (x : tie.After-wins) (t : Bool) → x .wins .result ≡ t → better x ≡ t
+better-is x t e = _∙_ {a = better x} (sym {b = better x} (x .wins .ensures)) e
+
 -- legs that are written as counted are those that the parent gives
 settled-legs : (l : List ℕ) (v : ℕ) {l′ : List ℕ} {n m : ℕ} → l′ ≡ set l v n → n ≡ m → l′ ≡ set l v m
 settled-legs l v e f = e ∙ ap (λ (x : ℕ). set l v x) f
@@ -204,12 +217,12 @@ returns-3 c =
     (b .legs-by .ensures) in
     elim (c .if3 .came) [
       | inl w ↦ let S = w .7 .ensures in (
-        rw (w .20, w .21, w .22, w .23, S .g-is, S .parent-is, S .mark-is, settled-legs (now (a .legs)) (a .w .number) (S .legs-is) (b .legs-by .ensures))
-            (looked true (sym (x .wins .ensures) ∙ w .0 .taken)),
+        rw (w .20, w .21, w .22, w .23, S .g-is, S .parent-is, S .mark-is, settled-legs (now (a .legs)) (a .w .number) {l′ = w .7 .last .1 .1 .1 .1 .1 .1 .1 .1 .0} {n = b .legs-by .result} (S .legs-is) (b .legs-by .ensures))
+            (looked true (better-is x true (w .0 .taken))),
         rw (w .20, w .22, w .23, w .24, w .25) (S .listed),
       )
       | inr w ↦ (
-        rw (w .1, w .2, w .3, w .4) (looked false (sym (x .wins .ensures) ∙ w .0 .left)),
+        rw (w .1, w .2, w .3, w .4) (looked false (better-is x false (w .0 .left))),
         rw (w .1, w .3, w .4, w .5, w .6) (s .pre .1 .1 .1 .0),
       )
     ]
@@ -239,7 +252,7 @@ settle-requires c κs =
           is = P .numbered;
           small = own-small j;
           less = λ o. fell (at (now (a .marks)) (a .w .number)) (candidate-g j) (b .legs-by .result) (at (now (a .g)) (a .w .number)) (at (now (a .legs)) (a .w .number))
-              (sym (x .wins .ensures) ∙ t .if3 .taken) o;
+              (better-is x true (t .if3 .taken)) o;
         };
         on-parent = from-on k .0;
         room-p = s .pre .0 .ready .room-p;

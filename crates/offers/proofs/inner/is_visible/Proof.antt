@@ -1,5 +1,6 @@
 -- `offers::inner::is_visible` asks for sight, and of an unseen vertex whether it is admitted.
 use mathlib.Core.Path.{sym}
+use mathlib.Core.Logic.{_≢_}
 use borrow.Author.Needs.{needs}
 use borrow.Author.Tests.{not-true, not-false}
 use Rattle.offers.proofs.Places.{beside-neighbours, unseen-far, sight-near}
@@ -20,6 +21,10 @@ returns c =
     unseen-far (J .placed) (J .beside) (J .apart) (J .admitted) (n .sees-neighbour .ensures)
     (not-true (n .sees-neighbour .result) (c .if1 .taken))
 
+-- whoever was seen before was admitted then: only an unseen vertex may be a pinched one
+was-seen : (c : tie.Then2) → c .before .before .before .before .args .mark ≢ 0
+was-seen c = c .if2 .taken
+
 returns-2 : tie.Need-returns-2
 returns-2 c =
     let e = c .before in
@@ -27,7 +32,7 @@ returns-2 c =
     let J = n .before .before .pre in
     sight-near (J .placed) (J .beside) (J .apart) (J .admitted) (n .sees-neighbour .ensures)
     (not-false (n .sees-neighbour .result) (e .if1 .left))
-    (sym (J .seen-admitted (c .if2 .taken)))
+    (sym (J .seen-admitted (was-seen c)))
 
 returns-3 : tie.Need-returns-3
 returns-3 c =

@@ -1,5 +1,6 @@
 -- `open::list::look` goes along the group with the first open vertex so far.
 use mathlib.Core.Bool.{true, false}
+use mathlib.Core.Path.{_≡_}
 use mathlib.Core.Logic.{⊎-elim}
 use Prim.Native.Nat.{_+_, _-_, _*_, _≤_, _<_}
 use native.Mathlib.Omega.{arith}
@@ -7,6 +8,7 @@ use borrow.Author.Needs.{needs}
 use denote.Ref.{now}
 use lib.ListN.{length}
 use Rattle.board.specs.Limits.{mostVertices}
+use Rattle.reach.specs.Turns.{at}
 use Rattle.table.proofs.Table.{known-leg}
 use Rattle.open.specs.Groups.{groupStart, groupEnd}
 use Rattle.open.proofs.Looking.{units-small, vertices-most, group-filled, column-below, Looking, looking-start, looking-closed, looking-open, looked}
@@ -70,11 +72,12 @@ loop-again c =
     let a = s .args in
     let t = here k .inside in
     let low = l .inv .0 in
+    let mark = at (now (a .marks)) (a .y * (a .width + 1) + l .column) in
     let next : Looking (a .width) (a .height) (a .x) (a .y) (a .gx) (a .gy) (now (a .g)) (now (a .marks)) (now (a .legs)) (l .column + 1) (c .if1 .first) (c .if1 .key) =
     ⊎-elim
-    (λ w. rw (w .6, w .7) (looking-open (s .pre .0) (s .pre .1 .0) (l .inv .2) low t _ (w .0 .taken) (w .2 .ensures) (w .4 .ensures) true (w .5 .taken)))
+    (λ w. let is-open : mark ≡ 1 = w .0 .taken in rw (w .6, w .7) (looking-open (s .pre .0) (s .pre .1 .0) (l .inv .2) low t _ is-open (w .2 .ensures) (w .4 .ensures) true (w .5 .taken)))
     (⊎-elim
-    (λ w. rw (w .6, w .7) (looking-open (s .pre .0) (s .pre .1 .0) (l .inv .2) low t _ (w .0 .taken) (w .2 .ensures) (w .4 .ensures) false (w .5 .left)))
+    (λ w. let is-open : mark ≡ 1 = w .0 .taken in rw (w .6, w .7) (looking-open (s .pre .0) (s .pre .1 .0) (l .inv .2) low t _ is-open (w .2 .ensures) (w .4 .ensures) false (w .5 .left)))
     (λ w. rw (w .1, w .2) (looking-closed (s .pre .0) (s .pre .1 .0) (l .inv .2) low t (w .0 .left))))
     (c .if1 .came) in
     (omega (arith, low), omega (arith, t), next)

@@ -7,10 +7,10 @@ use native.Mathlib.Nat.{mod-lt}
 use native.Mathlib.Omega.{arith}
 use borrow.Author.Needs.{needs}
 use lib.ListN.{length, drop}
-use Rattle.packed.specs.Packed.{packedBytes, entries, byteFrom}
-use Rattle.packed.proofs.Entries.{entries-none, kept-length, written-next}
-use Rattle.packed.proofs.Rows.{bytes-few, line-room}
-use Rattle.packed.proofs.Trips.{byte-is}
+use Rattle.bits.specs.Packed.{packedBytes, entries, byteFrom}
+use Rattle.bits.proofs.Entries.{entries-none, kept-length, written-next}
+use Rattle.bits.proofs.Rows.{bytes-few, line-room}
+use Rattle.bits.proofs.Trips.{byte-is}
 use Rattle.packed.proofs.bytes.pack.Statement.{statement}
 use Rattle.packed.proofs.bytes.pack.Tie as tie
 

@@ -6,10 +6,10 @@ use Prim.Native.Nat.{_*_, _-_, _/_, _%_, _≤_, _<_}
 use native.Mathlib.Nat.{mod-lt}
 use native.Mathlib.Omega.{arith}
 use lib.ListN.{length, drop}
-use Rattle.packed.specs.Packed.{entries, cellOf}
-use Rattle.packed.proofs.Entries.{entries-none, kept-length, written-next}
-use Rattle.packed.proofs.Rows.{line-below, byte-below, cells-few}
-use Rattle.packed.proofs.Trips.{cell-is}
+use Rattle.bits.specs.Packed.{entries, cellOf}
+use Rattle.bits.proofs.Entries.{entries-none, kept-length, written-next}
+use Rattle.bits.proofs.Rows.{line-below, byte-below, cells-few}
+use Rattle.bits.proofs.Trips.{cell-is}
 use Rattle.packed.proofs.bytes.unpack.Statement.{statement}
 use Rattle.packed.proofs.bytes.unpack.Tie as tie
 

@@ -1,5 +1,4 @@
 -- `points::inner::judge_points` judges by 25, 26 and 27, in this order.
-use mathlib.Core.Path.{sym, _∙_}
 use borrow.Author.Needs.{needs}
 use Rattle.points.proofs.Same.{points-left}
 use Rattle.points.proofs.Reading.{path-end, path-off, path-leg, path-fine}
@@ -7,19 +6,19 @@ use Rattle.points.proofs.inner.judge_points.Statement.{statement}
 use Rattle.points.proofs.inner.judge_points.Tie as tie
 
 returns : tie.Need-returns
-returns c = path-end _ _ _ _ (sym (c .before .is-end-wrong .ensures) ∙ c .if1 .taken)
+returns c = path-end _ _ _ _ (c .before .is-end-wrong .ensures) (c .if1 .taken)
 
 returns-2 : tie.Need-returns-2
 returns-2 c =
     let off = c .before in
     let right = off .before in
-    path-off _ _ _ _ (sym (right .before .is-end-wrong .ensures) ∙ right .if1 .left) (off .first-off .ensures) (c .if2 .taken)
+    path-off _ _ _ _ (right .before .is-end-wrong .ensures) (right .if1 .left) (off .first-off .ensures _) (c .if2 .taken)
 
 first-wrong-leg-requires : tie.Need-first-wrong-leg-requires
 first-wrong-leg-requires c κs =
     let off = c .before in
     let s = off .before .before .before .before .before in
-    (s .pre .0, (s .pre .1, points-left _ _ _ (off .first-off .ensures) (c .if2 .left)))
+    (s .pre .0, (s .pre .1, points-left _ _ _ (off .first-off .ensures _) (c .if2 .left)))
 
 returns-3 : tie.Need-returns-3
 returns-3 c =
@@ -27,7 +26,7 @@ returns-3 c =
     let on = leg .before in
     let off = on .before in
     let right = off .before in
-    path-leg _ _ _ _ (sym (right .before .is-end-wrong .ensures) ∙ right .if1 .left) (off .first-off .ensures) (on .if2 .left)
+    path-leg _ _ _ _ (right .before .is-end-wrong .ensures) (right .if1 .left) (off .first-off .ensures _) (on .if2 .left)
     (leg .first-wrong-leg .ensures) (c .if3 .taken)
 
 returns-4 : tie.Need-returns-4
@@ -36,7 +35,7 @@ returns-4 c =
     let on = leg .before in
     let off = on .before in
     let right = off .before in
-    path-fine _ _ _ _ (sym (right .before .is-end-wrong .ensures) ∙ right .if1 .left) (off .first-off .ensures) (on .if2 .left)
+    path-fine _ _ _ _ (right .before .is-end-wrong .ensures) (right .if1 .left) (off .first-off .ensures _) (on .if2 .left)
     (leg .first-wrong-leg .ensures) (c .if3 .left)
 
 pub judge-points-spec : {M : Type 1} → statement M

@@ -8,7 +8,7 @@ use Rattle.board.specs.Handed.{passes}
 use Rattle.records.specs.Records.{records, inOrder}
 use Rattle.records.proofs.InOrder.{none-yet, one-more}
 use Rattle.tracks.specs.Faults.{recordRows}
-use Rattle.readback.specs.Inner.{progress}
+use Rattle.scan.specs.Inner.{progress}
 use Rattle.readback.proofs.Judging.{uneven, stops, ends, goes-on, progress-next}
 use Rattle.readback.proofs.check.check_routes.Statement.{statement}
 use Rattle.readback.proofs.check.check_routes.Tie as tie

@@ -1,6 +1,6 @@
 -- `roster::inner::is_in_file` looks for the net's first record.
 use borrow.Author.Needs.{needs}
-use Rattle.roster.proofs.Standing.{routes-told}
+use Rattle.runs.proofs.Standing.{routes-told}
 use Rattle.roster.proofs.inner.is_in_file.Statement.{statement}
 use Rattle.roster.proofs.inner.is_in_file.Tie as tie
 

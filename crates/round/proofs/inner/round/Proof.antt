@@ -166,7 +166,7 @@ loop2-again c =
     let e : y * (s .args .request .width + 1) + (l .x + 1) ≡ y * (s .args .request .width + 1) + l .x + 1 = omega arith in (
       omega arith,
       omega (arith, k .loop2-test .taken),
-      record { is = λ before P. rw e (passed-more {s = looked j} (l .inv .2 .is before P) (j .look .ensures .0) (j .look .ensures .1)) },
+      record { is = λ before P. rw e (passed-more {s = looked j} {leads′ = j .look .last .1 .1 .1 .1 .1 .1 .1 .1 .1 .1 .0} {keys′ = j .look .last .1 .1 .1 .1 .1 .1 .1 .1 .1 .1 .1 .0} (l .inv .2 .is before P) (j .look .ensures .0) (j .look .ensures .1)) },
       _∙_ {b = length (l .leads)} (j .look .kept .1 .1 .1 .1 .1 .1 .1 .1 .1 .1 .0) (l .inv .3),
       _∙_ {b = length (l .keys)} (j .look .kept .1 .1 .1 .1 .1 .1 .1 .1 .1 .1 .1 .0) (l .inv .4),
     )

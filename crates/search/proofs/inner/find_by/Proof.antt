@@ -4,6 +4,7 @@ use Prim.Native.Nat.{_+_, _*_, _≤_, _<_}
 use native.Mathlib.Omega.{arith}
 use borrow.Author.Needs.{needs}
 use denote.Ref.{now}
+use lib.ListN.{length}
 use Rattle.board.specs.Limits.{largestSide, mostVertices}
 use Rattle.board.proofs.Numbers.{number-below}
 use Rattle.open.specs.Groups.{perRow}
@@ -94,7 +95,7 @@ same-length : tie.Need-same-length
 same-length c =
     let r = over c in
     let o = begun-with r in
-    r .run .kept .1 .1 .0 ∙ o .open-vertex .kept .1 .1 .1 .1 .1 .1 .1 .1 .1 .0 ∙ cleared o .begin .kept .1 .1 .0
+    _∙_ {b = length (opened o .g)} (r .run .kept .1 .1 .0) (_∙_ {b = length (emptied (cleared o) .g)} (o .open-vertex .kept .1 .1 .1 .1 .1 .1 .1 .1 .1 .0) (cleared o .begin .kept .1 .1 .0))
 
 same-length-2 : tie.Need-same-length-2
 same-length-2 c = let r = over c in r .run .kept .1 .1 .1 .0 ∙ cleared (begun-with r) .begin .kept .1 .1 .1 .0
@@ -103,13 +104,13 @@ same-length-3 : tie.Need-same-length-3
 same-length-3 c =
     let r = over c in
     let o = begun-with r in
-    r .run .kept .1 .1 .1 .1 .0 ∙ o .open-vertex .kept .1 .1 .1 .1 .1 .1 .1 .1 .1 .1 .0 ∙ cleared o .begin .kept .1 .1 .1 .1 .0
+    _∙_ {b = length (opened o .mark)} (r .run .kept .1 .1 .1 .1 .0) (_∙_ {b = length (emptied (cleared o) .mark)} (o .open-vertex .kept .1 .1 .1 .1 .1 .1 .1 .1 .1 .1 .0) (cleared o .begin .kept .1 .1 .1 .1 .0))
 
 same-length-4 : tie.Need-same-length-4
 same-length-4 c =
     let r = over c in
     let o = begun-with r in
-    r .run .kept .1 .1 .1 .1 .1 .0 ∙ o .open-vertex .kept .1 .1 .1 .1 .1 .1 .1 .1 .1 .1 .1 .0 ∙ cleared o .begin .kept .1 .1 .1 .1 .1 .0
+    _∙_ {b = length (opened o .legs)} (r .run .kept .1 .1 .1 .1 .1 .0) (_∙_ {b = length (emptied (cleared o) .legs)} (o .open-vertex .kept .1 .1 .1 .1 .1 .1 .1 .1 .1 .1 .1 .0) (cleared o .begin .kept .1 .1 .1 .1 .1 .0))
 
 -- what they hold when the turns have ended
 abbrev ran : tie.After-run → State

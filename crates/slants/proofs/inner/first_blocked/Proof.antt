@@ -79,6 +79,20 @@ turns : (t : tie.At-loop Inv-loop μ-loop Inv-columns μ-columns) → t .loop .a
     → (column (t .before) + 1 < columns (t .before)) × (t .loop .inv .0 + 1 < rows (t .before))
 turns t e f = let (v, i) = t .loop .inv in corner i e _ (t .before .before .before .cell-beside .ensures) f
 
+-- ---- what the walk's tests tell
+
+-- it goes on in its column only where the column does not end in this row
+goes-down : (c : tie.Else2 Inv-loop μ-loop Inv-columns μ-columns) → let t = c .before .before .before in t .loop .ahead < rows (t .before)
+goes-down c = omega (arith, c .if2 .left)
+
+-- it is at a corner only where the row ends with the column
+met : (c : tie.Then3 Inv-loop μ-loop Inv-columns μ-columns) → let t = c .before .before .before .before in t .loop .ahead ≡ rows (t .before)
+met c = omega (arith, c .if3 .taken)
+
+-- and has come to its end only at the leg's last cell
+ended : (c : tie.Then4 Inv-loop μ-loop Inv-columns μ-columns) → let t = c .before .before .before .before .before in t .loop .cell ≡ end (t .before)
+ended c = c .if4 .taken
+
 -- ---- what the walk finds
 
 returns : tie.Need-returns Inv-loop μ-loop Inv-columns μ-columns
@@ -89,8 +103,8 @@ returns-2 c =
     let k = c .before .before .before in
     let t = k .before .before in
     let (v, i) = t .loop .inv in
-    let ended = walk-ended i (k .if1 .left) (omega (arith, c .before .if3 .taken)) _ (t .before .before .before .cell-beside .ensures) (c .if4 .taken) in
-    (ended, omega (arith, count-small (i .leg)))
+    let clear = walk-ended i (k .if1 .left) (omega (arith, met (c .before))) _ (t .before .before .before .cell-beside .ensures) (ended c) in
+    (clear, omega (arith, count-small (i .leg)))
 
 -- the leg goes on behind a corner: where the walk is, its cell is free, its row and column end together, and not at the leg's end
 abbrev there : tie.Else4 Inv-loop μ-loop Inv-columns μ-columns → tie.At-loop Inv-loop μ-loop Inv-columns μ-columns
@@ -101,11 +115,8 @@ free : (c : tie.Else4 Inv-loop μ-loop Inv-columns μ-columns) →
     getD (now (begun (measured (t .before)) .args .cells)) (t .loop .cell) 0 ≡ 1 → ⊥
 free c = c .before .before .before .if1 .left
 
-met : (c : tie.Else4 Inv-loop μ-loop Inv-columns μ-columns) → let t = there c in t .loop .ahead ≡ rows (t .before)
-met c = c .before .if3 .taken
-
 goes : (c : tie.Else4 Inv-loop μ-loop Inv-columns μ-columns) → let t = there c in (column (t .before) + 1 < columns (t .before)) × (t .loop .inv .0 + 1 < rows (t .before))
-goes c = turns (there c) (met c) (c .if4 .left)
+goes c = turns (there c) (met (c .before)) (c .if4 .left)
 
 -- where the three cells round the corner were worked out
 abbrev worked : tie.After-struct-known8 Inv-loop μ-loop Inv-columns μ-columns → tie.Else4 Inv-loop μ-loop Inv-columns μ-columns
@@ -115,14 +126,14 @@ returns-3 : tie.Need-returns-3 Inv-loop μ-loop Inv-columns μ-columns
 returns-3 c =
     let k = worked (c .before .before) in
     let (v, i) = there k .loop .inv in
-    let stopped = walk-pinched i (free k) (met k) (goes k) _ _ _ refl refl refl (sym (c .before .is-pinch .ensures) ∙ c .if5 .taken) in
-    (stopped, omega (arith, count-small (i .leg), cells-read i (free k) (met k) (goes k) _ _ _ refl refl refl))
+    let stopped = walk-pinched i (free k) (met (k .before)) (goes k) _ _ _ refl refl refl (sym (c .before .is-pinch .ensures) ∙ c .if5 .taken) in
+    (stopped, omega (arith, count-small (i .leg), cells-read i (free k) (met (k .before)) (goes k) _ _ _ refl refl refl))
 
 loop-again : tie.Need-loop-again Inv-loop μ-loop Inv-columns μ-columns
 loop-again c =
     let k = c .before .before in
     let (v, i) = k .before .before .before .loop .inv in
-    (v + 1, cell-passed i (k .before .if1 .left) (omega (arith, k .if2 .left)))
+    (v + 1, cell-passed i (k .before .if1 .left) (goes-down k))
 
 -- the column is left, inside a row or by a corner
 left-column : (c : tie.Joined3 Inv-loop μ-loop Inv-columns μ-columns) →
@@ -152,7 +163,7 @@ columns-again c = let (v, i) = left-column (left c) in (_, v, column-passed i)
 
 -- the row ends before the column does: the leg goes on in the next row
 goes-on : (c : tie.Else2 Inv-loop μ-loop Inv-columns μ-columns) → let t = c .before .before .before in t .loop .inv .0 + 1 < rows (t .before)
-goes-on c = let (v, i) = c .before .before .before .loop .inv in next-row i (omega (arith, c .if2 .left))
+goes-on c = let (v, i) = c .before .before .before .loop .inv in next-row i (goes-down c)
 
 distance-requires : tie.Need-distance-requires Inv-loop μ-loop Inv-columns μ-columns
 distance-requires c κs = search needs
@@ -217,31 +228,31 @@ add-next : tie.Need-add-next Inv-loop μ-loop Inv-columns μ-columns
 add-next c =
     let k = c .before .before .before in
     let (v, i) = there k .loop .inv in
-    omega (arith, sums-small i (free k) (met k) (goes k) _ _ _ refl refl refl)
+    omega (arith, sums-small i (free k) (met (k .before)) (goes k) _ _ _ refl refl refl)
 
 sub-next : tie.Need-sub-next Inv-loop μ-loop Inv-columns μ-columns
 sub-next c =
     let k = c .before .before .before .before in
     let (v, i) = there k .loop .inv in
-    sums-fit i (free k) (met k) (goes k) _ _ _ refl refl refl .1
+    sums-fit i (free k) (met (k .before)) (goes k) _ _ _ refl refl refl .1
 
 add-is-pinch : tie.Need-add-is-pinch Inv-loop μ-loop Inv-columns μ-columns
 add-is-pinch c =
     let k = c .before .before .before .before .before in
     let (v, i) = there k .loop .inv in
-    omega (arith, sums-small i (free k) (met k) (goes k) _ _ _ refl refl refl)
+    omega (arith, sums-small i (free k) (met (k .before)) (goes k) _ _ _ refl refl refl)
 
 sub-is-pinch : tie.Need-sub-is-pinch Inv-loop μ-loop Inv-columns μ-columns
 sub-is-pinch c =
     let k = worked c in
     let (v, i) = there k .loop .inv in
-    sums-fit i (free k) (met k) (goes k) _ _ _ refl refl refl .0
+    sums-fit i (free k) (met (k .before)) (goes k) _ _ _ refl refl refl .0
 
 is-pinch-requires : tie.Need-is-pinch-requires Inv-loop μ-loop Inv-columns μ-columns
 is-pinch-requires c κs =
     let k = worked c in
     let (v, i) = there k .loop .inv in
-    cells-read i (free k) (met k) (goes k) _ _ _ refl refl refl
+    cells-read i (free k) (met (k .before)) (goes k) _ _ _ refl refl refl
 
 add-found : tie.Need-add-found Inv-loop μ-loop Inv-columns μ-columns
 add-found c = let (v, i) = there (worked (c .before .before)) .loop .inv in omega (arith, count-small (i .leg))
@@ -250,13 +261,13 @@ add-found-2 : tie.Need-add-found-2 Inv-loop μ-loop Inv-columns μ-columns
 add-found-2 c =
     let k = worked (c .before .before) in
     let (v, i) = there k .loop .inv in
-    omega (arith, count-small (i .leg), cells-read i (free k) (met k) (goes k) _ _ _ refl refl refl)
+    omega (arith, count-small (i .leg), cells-read i (free k) (met (k .before)) (goes k) _ _ _ refl refl refl)
 
 add-ahead-2 : tie.Need-add-ahead-2 Inv-loop μ-loop Inv-columns μ-columns
 add-ahead-2 c =
     let k = worked (c .before .before) in
     let (v, i) = there k .loop .inv in
-    omega (arith, met k, n-small (i .leg), m-small (i .leg))
+    omega (arith, met (k .before), n-small (i .leg), m-small (i .leg))
 
 sub-ahead : tie.Need-sub-ahead Inv-loop μ-loop Inv-columns μ-columns
 sub-ahead c = let (v, i) = left-column (c .before) in ahead-fits i

@@ -1,9 +1,12 @@
 -- `steps::inner::net_step` judges a net record by 12, 17, then 16.
-use mathlib.Core.Path.{_≡_}
-use mathlib.Core.Bool.{false, _&&_}
+use Prim.Native.Nat.{ℕ}
+use mathlib.Core.Path.{_≡_, ap₂}
+use mathlib.Core.Bool.{Bool, false, _&&_}
 use lib.Dec.{leb}
 use borrow.Author.Needs.{needs}
-use borrow.Author.Tests.{not-true, not-false, eq-eqb, ne-eqb}
+use borrow.Author.Tests.{eq-eqb, ne-eqb}
+use Rattle.laws.proofs.Tests.{answered-no, answered-yes}
+use Rattle.steps.specs.declared.Progress.{Progress}
 use Rattle.steps.specs.Steps.{netStep}
 use Rattle.steps.proofs.inner.net_step.Statement.{statement}
 use Rattle.steps.proofs.inner.net_step.Tie as tie
@@ -11,6 +14,14 @@ use Rattle.steps.proofs.inner.net_step.Tie as tie
 -- what 17 lets through has a number above the last, wherever its ends are
 ordered : (c : tie.Else2) → (let a = c .before .before .before .before .before .args in leb (a .number) (a .past .last) ≡ false)
 ordered c = c .if2 .left
+
+-- the four tests of a net's two ends
+abbrev endsOn : (p : Progress) (sx sy gx gy : ℕ) → Bool
+endsOn p sx sy gx gy = (leb sx (p .width) && leb sy (p .height)) && (leb gx (p .width) && leb gy (p .height))
+
+-- what 16 is judged by is whether both ends are on the board
+both-judged : (k : tie.After-is-vertex2) → (let a = k .before .before .before .args in (k .before .is-vertex .result && k .is-vertex2 .result) ≡ endsOn (a .past) (a .sx) (a .sy) (a .gx) (a .gy))
+both-judged k = ap₂ (λ (s g : Bool). s && g) (k .before .is-vertex .ensures) (k .is-vertex2 .ensures)
 
 is-vertex-requires : tie.Need-is-vertex-requires
 is-vertex-requires c κs = search needs
@@ -30,8 +41,7 @@ returns-3 : tie.Need-returns-3
 unfolding netStep
 returns-3 c =
     let k = c .before .before .before in
-    let off =
-    rw (k .before .is-vertex .ensures, k .is-vertex2 .ensures) at (not-true (k .before .is-vertex .result && k .is-vertex2 .result) (c .if3 .taken)) in
+    let off = answered-no (both-judged k) (c .if3 .taken) in
     rw (ne-eqb _ 0 (c .before .before .if1 .left), ordered (c .before), off)
 
 add-t18 : tie.Need-add-t18
@@ -41,8 +51,7 @@ returns-4 : tie.Need-returns-4
 unfolding netStep
 returns-4 c =
     let k = c .before .before .before in
-    let on =
-    rw (k .before .is-vertex .ensures, k .is-vertex2 .ensures) at (not-false (k .before .is-vertex .result && k .is-vertex2 .result) (c .if3 .left)) in
+    let on = answered-yes (both-judged k) (c .if3 .left) in
     rw (ne-eqb _ 0 (c .before .before .if1 .left), ordered (c .before), on)
 
 pub net-step-spec : {M : Type 1} → statement M

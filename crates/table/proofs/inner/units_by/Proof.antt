@@ -23,6 +23,10 @@ placed k =
     let p = has-place (2 * (largestSide * largestSide)) (s .args .s) (s .pre .0) (k .if1 .left) in
     (p, omega (arith, p, s .pre .1 .room))
 
+-- what is read is the length of the leg asked for
+returns-2 : tie.Need-returns-2
+returns-2 c = let k = c .before in let s = k .before .before in s .pre .1 .right (s .args .s) (placed k .1)
+
 mul-result : tie.Need-mul-result
 mul-result c = omega (arith, placed c .0)
 
@@ -34,9 +38,6 @@ cast-result c =
     let k = c .before in
     let s = k .before .before in
     omega (arith, s .pre .1 .right (s .args .s) (placed k .1), known-small (s .args .s) (placed k .0))
-
-returns-2 : tie.Need-returns-2
-returns-2 c = let k = c .before in let s = k .before .before in s .pre .1 .right (s .args .s) (placed k .1)
 
 pub units-by-spec : {M : Type 1} → statement M
 units-by-spec =

@@ -1,14 +1,14 @@
 -- `tournament::tree::enter` climbs from the leaf while the vertex is ahead.
 use mathlib.Core.Bool.{Bool}
-use Prim.Native.Nat.{_≤_, _<_}
+use Prim.Native.Nat.{_/_, _≤_, _<_}
 use native.Mathlib.Omega.{arith}
 use denote.Ref.{now}
-use lib.ListN.{length, length-set}
+use lib.ListN.{length, set, length-set}
 use Rattle.laws.proofs.Tests.{answered-no, answered-yes}
 use Rattle.board.specs.Limits.{vertices-fit}
 use Rattle.reach.specs.Turns.{at}
 use Rattle.theta.specs.Order.{Rank, ranked, sooner}
-use Rattle.tournament.specs.Ranks.{numbers, seen}
+use Rattle.ranks.specs.Ranks.{numbers, seen}
 use Rattle.tournament.proofs.Climbs.{Climbing, climbing-start, climbing-step, climbing-stop, climbing-end}
 use Rattle.tournament.proofs.tree.enter.Statement.{statement}
 use Rattle.tournament.proofs.tree.enter.Tie as tie
@@ -103,11 +103,13 @@ loop-again c =
     let k = inside c in
     let l = k .before in
     let s = start l in
-    let room = place l .0 in (
-      omega (arith, l .loop .inv .0),
-      climbing-step (l .loop .inv .1) (omega (arith, k .loop-test .taken)) (omega (arith, l .loop .inv .1 .same-l)) (s .pre .1 .1)
-          (answered-yes {t = test k} (c .before .ahead .ensures) (c .if1 .left)),
-    )
+    let room = place l .0 in
+    let seat = set (l .loop .leads) (l .loop .i) (s .args .v) in
+    let key = set (l .loop .keys) (l .loop .i) (s .args .f) in
+    let climbed : Climbing (seen (now (s .args .g)) (now (s .args .legs))) (numbers (now (s .args .g)) (now (s .args .legs))) (new s) (s .args .leaf) (now (s .args .leads)) (now (s .args .keys)) (l .loop .i / 2) seat key =
+    climbing-step (l .loop .inv .1) (omega (arith, k .loop-test .taken)) (omega (arith, l .loop .inv .1 .same-l)) (s .pre .1 .1)
+    (answered-yes {t = test k} (c .before .ahead .ensures) (c .if1 .left)) in
+    (omega (arith, l .loop .inv .0), climbed)
 
 same-length-3 : tie.Need-same-length-3 Inv-loop μ-loop
 same-length-3 c = c .before .loop .inv .1 .same-l

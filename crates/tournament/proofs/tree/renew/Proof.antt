@@ -7,7 +7,7 @@ use native.Mathlib.Omega.{arith}
 use denote.Ref.{now}
 use lib.ListN.{length, set, length-set}
 use Rattle.board.specs.Limits.{vertices-fit}
-use Rattle.tournament.specs.Ranks.{numbers, seen}
+use Rattle.ranks.specs.Ranks.{numbers, seen}
 use Rattle.tournament.proofs.Climbs.{Renewing, renewing-start, renewing-step, renewing-end}
 use Rattle.tournament.proofs.tree.renew.Statement.{statement}
 use Rattle.tournament.proofs.tree.renew.Tie as tie

@@ -5,7 +5,7 @@ use native.Mathlib.Omega.{arith}
 use denote.Ref.{now}
 use Rattle.laws.proofs.Tests.{false-of}
 use Rattle.theta.specs.Order.{sooner}
-use Rattle.tournament.specs.Ranks.{seen}
+use Rattle.ranks.specs.Ranks.{seen}
 use Rattle.theta.proofs.Order.{sooner-least}
 use borrow.Author.Needs.{needs}
 use Rattle.tournament.proofs.tree.winner.Statement.{statement}

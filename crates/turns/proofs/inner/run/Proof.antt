@@ -7,6 +7,7 @@ use lib.ListN.{length}
 use Rattle.board.specs.Limits.{mostVertices}
 use Rattle.board.specs.Board.{numberOf}
 use Rattle.board.proofs.Numbers.{number-below}
+use Rattle.tournament.specs.Contest.{noKey}
 use Rattle.open.proofs.Grouping.{root-room}
 use Rattle.theta.specs.Search.{State}
 use Rattle.theta.specs.Lent.{state}
@@ -54,8 +55,12 @@ first-requires c κs =
 abbrev empty : tie.Then1 Inv-turns μ-turns → tie.At-turns Inv-turns μ-turns
 empty c = c .before .before .before .before .before
 
+-- there is no path only where the leader of all has no key
+no-key : (c : tie.Then1 Inv-turns μ-turns) → c .before .before .first .result .f ≡ noKey
+no-key c = c .if1 .taken
+
 returns : tie.Need-returns Inv-turns μ-turns
-returns c = let l = empty c in finding-none (start l .pre .0) (l .turns .inv .0) (c .before .before .first .ensures) (c .if1 .taken)
+returns c = let l = empty c in finding-none (start l .pre .0) (l .turns .inv .0) (c .before .before .first .ensures) (no-key c)
 
 -- the places on the way: a vertex has been expanded, it is taken, the first of the open list is known, its turn begins
 abbrev behind : tie.After-slice-known12 Inv-turns μ-turns → tie.After-expand Inv-turns μ-turns
@@ -118,12 +123,12 @@ turns-again c =
     let k = taken o in
     let l = turn k in (
       finding-next (start l .pre .0) (l .turns .inv .0) (leader k .first .ensures) (k .before .if1 .left) (not-goal k) {r = expanded o} (o .expand .ensures .0) (o .expand .ensures .1),
-      o .expand .kept .1 .1 .1 .1 .0 ∙ l .turns .inv .1,
-      o .expand .kept .1 .1 .1 .1 .1 .0 ∙ l .turns .inv .2,
-      o .expand .kept .1 .1 .1 .1 .1 .1 .0 ∙ l .turns .inv .3,
-      o .expand .kept .1 .1 .1 .1 .1 .1 .1 .0 ∙ l .turns .inv .4,
-      o .expand .kept .1 .1 .1 .1 .1 .1 .1 .1 .0 ∙ l .turns .inv .5,
-      o .expand .kept .1 .1 .1 .1 .1 .1 .1 .1 .1 .0 ∙ l .turns .inv .6,
+      _∙_ {b = length (l .turns .g)} (o .expand .kept .1 .1 .1 .1 .0) (l .turns .inv .1),
+      _∙_ {b = length (l .turns .parents)} (o .expand .kept .1 .1 .1 .1 .1 .0) (l .turns .inv .2),
+      _∙_ {b = length (l .turns .marks)} (o .expand .kept .1 .1 .1 .1 .1 .1 .0) (l .turns .inv .3),
+      _∙_ {b = length (l .turns .legs)} (o .expand .kept .1 .1 .1 .1 .1 .1 .1 .0) (l .turns .inv .4),
+      _∙_ {b = length (l .turns .leads)} (o .expand .kept .1 .1 .1 .1 .1 .1 .1 .1 .0) (l .turns .inv .5),
+      _∙_ {b = length (l .turns .keys)} (o .expand .kept .1 .1 .1 .1 .1 .1 .1 .1 .1 .0) (l .turns .inv .6),
     )
 
 pub run-spec : {M : Type 1} → statement M

@@ -10,24 +10,12 @@ use Rattle.walks.proofs.inner.first_stop.Tie as tie
 abbrev asked : tie.Start → Board
 asked s = board (now (s .args .cells)) (s .args .width) (s .args .height)
 
-first-walled-requires : tie.Need-first-walled-requires
-first-walled-requires c κs = search needs
-
-stop-after-requires : tie.Need-stop-after-requires
-stop-after-requires c κs = c .first-walled .ensures .1
-
 returns : tie.Need-returns
 returns c =
     let d = c .before .before in
     let s = d .before .before in
     let a = s .args in
     stop-level (asked s) (a .ax) (a .ay) (a .bx) (a .by) (d .if1 .taken) (c .before .first-walled .result) (c .stop-after .result) (c .before .first-walled .ensures .0) (c .stop-after .ensures)
-
-first-walled-requires-2 : tie.Need-first-walled-requires-2
-first-walled-requires-2 c κs = search needs
-
-stop-after-requires-2 : tie.Need-stop-after-requires-2
-stop-after-requires-2 c κs = c .first-walled2 .ensures .1
 
 returns-2 : tie.Need-returns-2
 returns-2 c =
@@ -36,18 +24,30 @@ returns-2 c =
     let a = s .args in
     stop-upright (asked s) (a .ax) (a .ay) (a .bx) (a .by) (d .before .if1 .left) (d .if2 .taken) (c .before .first-walled2 .result) (c .stop-after2 .result) (c .before .first-walled2 .ensures .0) (c .stop-after2 .ensures)
 
-first-blocked-requires : tie.Need-first-blocked-requires
-first-blocked-requires c κs = search needs
-
-stop-at-requires : tie.Need-stop-at-requires
-stop-at-requires c κs = let s = c .before .before .before .before in (s .pre .0 .wide, c .first-blocked .ensures .1)
-
 returns-3 : tie.Need-returns-3
 returns-3 c =
     let d = c .before .before in
     let s = d .before .before .before in
     let a = s .args in
     stop-slanted (asked s) (a .ax) (a .ay) (a .bx) (a .by) (d .before .if1 .left) (d .if2 .left) (c .before .first-blocked .result) (c .stop-at .result) (c .before .first-blocked .ensures .0) (c .stop-at .ensures)
+
+first-walled-requires : tie.Need-first-walled-requires
+first-walled-requires c κs = search needs
+
+stop-after-requires : tie.Need-stop-after-requires
+stop-after-requires c κs = c .first-walled .ensures .1
+
+first-walled-requires-2 : tie.Need-first-walled-requires-2
+first-walled-requires-2 c κs = search needs
+
+stop-after-requires-2 : tie.Need-stop-after-requires-2
+stop-after-requires-2 c κs = c .first-walled2 .ensures .1
+
+first-blocked-requires : tie.Need-first-blocked-requires
+first-blocked-requires c κs = search needs
+
+stop-at-requires : tie.Need-stop-at-requires
+stop-at-requires c κs = let s = c .before .before .before .before in (s .pre .0 .wide, c .first-blocked .ensures .1)
 
 pub first-stop-spec : {M : Type 1} → statement M
 first-stop-spec =

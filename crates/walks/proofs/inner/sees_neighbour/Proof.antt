@@ -4,7 +4,7 @@ use mathlib.Core.Path.{_≡_, sym}
 use native.Mathlib.Omega.{arith}
 use borrow.Author.Needs.{needs}
 use denote.Ref.{now}
-use Rattle.board.specs.Board.{Board, board}
+use Rattle.board.specs.Board.{Board, board, blocked}
 use Rattle.legs.specs.Leg.{far}
 use Rattle.legs.proofs.Neighbours.{level-step, upright-step, diagonal-read, neighbours-near, neighbours-differ}
 use Rattle.walks.proofs.inner.sees_neighbour.Statement.{statement}
@@ -32,6 +32,17 @@ level-far c =
 
 upright-far : (c : tie.Else1) → let a = begun (c .before) .args in far (a .ay) (a .by) ≡ 1
 upright-far c = omega (arith, near (c .before), c .if1 .left)
+
+-- a step across a cell reads the cell between its ends
+returns-3 : tie.Need-returns-3
+returns-3 c =
+    let k = c .before .before in
+    let l = k .before in
+    let s = begun l in
+    let a = s .args in
+    let f : far (a .ax) (a .bx) ≡ 1 = omega (arith, near l, c .before .if2 .left) in
+    let between : c .is-cell-blocked .result ≡ blocked (asked l) (l .before .lesser .result) (l .lesser2 .result) = c .is-cell-blocked .ensures in
+    diagonal-read (asked l) (a .ax) (a .ay) (a .bx) (a .by) (s .pre .1 .0) between (l .before .lesser .ensures) (l .lesser2 .ensures) f (upright-far k)
 
 lesser-requires : tie.Need-lesser-requires
 lesser-requires c κs = search needs
@@ -66,16 +77,6 @@ returns-2 c =
 
 is-cell-blocked-requires : tie.Need-is-cell-blocked-requires
 is-cell-blocked-requires c κs = search needs
-
-returns-3 : tie.Need-returns-3
-returns-3 c =
-    let k = c .before .before in
-    let l = k .before in
-    let s = begun l in
-    let a = s .args in
-    let f : far (a .ax) (a .bx) ≡ 1 = omega (arith, near l, c .before .if2 .left) in
-    diagonal-read (asked l) (a .ax) (a .ay) (a .bx) (a .by) (s .pre .1 .0)
-    (c .is-cell-blocked .ensures) (l .before .lesser .ensures) (l .lesser2 .ensures) f (upright-far k)
 
 pub sees-neighbour-spec : {M : Type 1} → statement M
 sees-neighbour-spec =

@@ -1,11 +1,16 @@
 -- `writing::put::put_refused` puts the pieces of its line in order.
-use native.Mathlib.Omega.{arith}
-use lib.ListN.{length-append}
-use Rattle.writing.proofs.put.Pieces.{refused-put}
-use Rattle.lines.proofs.Fields.{refused-count}
+use Rattle.putting.proofs.Puts.{room-one, room-two, put-two}
+use Rattle.lines.proofs.Fields.{refused-parts}
 use borrow.Author.Needs.{needs}
 use Rattle.writing.proofs.put.put_refused.Statement.{statement}
 use Rattle.writing.proofs.put.put_refused.Tie as tie
+
+returns : tie.Need-returns
+returns c =
+    let newline = c .before .before in
+    let both = newline .before .before .before .before in
+    let start = both .before .before .before .before .before in
+    put-two (refused-parts (start .args .number) (start .args .place)) (start .pre) (both .put-both .ensures) (newline .put-newline .ensures)
 
 slice-aggregate-put-both : tie.Need-slice-aggregate-put-both
 slice-aggregate-put-both c = search needs
@@ -16,26 +21,16 @@ slice-aggregate-put-both-2 c = search needs
 put-both-requires : tie.Need-put-both-requires
 put-both-requires c κs =
     let start = c .before .before .before .before in
-    let count = refused-count (start .args .number) (start .args .place) in
-    record { room = simp length-append (omega (arith, start .pre .room, count)) }
+    room-one (refused-parts (start .args .number) (start .args .place)) (start .pre)
 
-put-byte-requires : tie.Need-put-byte-requires
-put-byte-requires c κs =
+put-newline-requires : tie.Need-put-newline-requires
+put-newline-requires c κs =
     let both = c .before .before .before in
     let start = both .before .before .before .before .before in
-    let count = refused-count (start .args .number) (start .args .place) in
-    let next = simp length-append at (both .put-both .ensures .next-is) in
-    record { room = omega (arith, start .pre .room, count, next, both .put-both .kept .0) }
+    room-two (refused-parts (start .args .number) (start .args .place)) (start .pre) (both .put-both .ensures)
 
 same-length : tie.Need-same-length
 same-length c = search needs
-
-returns : tie.Need-returns
-returns c =
-    let byte = c .before .before in
-    let both = byte .before .before .before .before in
-    let start = both .before .before .before .before .before in
-    refused-put (start .args .number) (start .args .place) (start .pre) (both .put-both .ensures) (byte .put-byte .ensures)
 
 pub put-refused-spec : {M : Type 1} → statement M
 put-refused-spec =
@@ -44,6 +39,6 @@ put-refused-spec =
     slice-aggregate-put-both
     slice-aggregate-put-both-2
     put-both-requires
-    put-byte-requires
+    put-newline-requires
     same-length
     returns)

@@ -1,0 +1,2 @@
+// Which legs a given path may have.
+pub mod inner;

@@ -1,0 +1,4 @@
+pub mod Floats
+pub mod Answers
+pub mod Directions
+pub mod Determined

@@ -1,0 +1,2 @@
+// The routes of a file, gathered from its records into slices.
+pub mod inner;

@@ -1,0 +1,2 @@
+// The records of routes, laid into a slice net after net.
+pub mod inner;

@@ -1,0 +1,2 @@
+// The line of a net with a path.
+pub mod inner;

@@ -1,0 +1,2 @@
+// The nets of a job by their index.
+pub mod inner;

@@ -1,0 +1,2 @@
+// The nets of a job, each routed and its line printed.
+pub mod inner;

@@ -1,0 +1,2 @@
+// Bytes put into a slice piece by piece.
+pub mod inner;

@@ -1,0 +1,2 @@
+// The whole square root of a word.
+pub mod inner;

@@ -1,4 +1,0 @@
-pub mod Routed
-mod Wrote
-mod Printed
-pub mod Determined
