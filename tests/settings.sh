@@ -5,7 +5,7 @@
 #   CC       the compiler          FLAGS  its flags          LINK  flags behind the objects
 #   RUN      the command that runs a program built for x86-64 (nothing on x86-64 itself)
 #   OUT      folder for what is built (target/outside)
-#   SCALE    how many random cases outside.sh tries (1; under an emulator, which is many times slower, an eighth of them)
+#   SCALE    how many random cases outside.sh tries (1; under an emulator, which is many times slower, 1/8; where every small board is tried, it bounds their size)
 root=$(cd "$(dirname "$0")/.." && pwd)
 OUT=${OUT:-$root/target/outside}
 LIBRARY=${LIBRARY:-$root/target/staticlib/libwexxolin.a}
