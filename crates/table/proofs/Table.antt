@@ -8,12 +8,12 @@ use native.Mathlib.Nat.{add-zero, zero-add, add-suc, suc-add, le-of-suc-le-suc, 
 use native.Mathlib.Omega.{arith}
 use lib.Dec.{T, leb, ltb, leb→le, ltb→lt}
 use lib.ListN.{length, getD}
-use borrow.Author.Tests.{leb-false, le-leb}
-use Rattle.laws.proofs.Tests.{order}
+use borrow.Author.Tests.{leb-true, leb-false, le-leb}
+use Rattle.laws.proofs.Tests.{order, and-left, and-right}
 use Rattle.board.specs.Limits.{largestSide}
 use Rattle.spans.specs.Legs.{step}
 use Rattle.length.specs.Units.{square, unitsOf}
-use Rattle.root.proofs.Root.{below}
+use Rattle.root.proofs.Root.{below, next}
 use Rattle.length.proofs.Units.{units-one, units-bounds}
 use Rattle.table.specs.Lengths.{squares, Known}
 use Rattle.table.proofs.Squares.{square-most}
@@ -29,6 +29,14 @@ has-place largest s l e = go (order largest squares)
 -- a length of the table is small
 pub known-small : (s : ℕ) → s < squares → unitsOf s < 2 ^ 32
 known-small s l = let b = units-bounds s in omega (arith, below (unitsOf s) (2 ^ 27) (s * 2 ^ 40) (b .low) (omega arith))
+
+-- ---- a guess that passes the test is the length
+
+pub tested : (s u : ℕ) → (leb (u * u) (s * 2 ^ 40) && leb (s * 2 ^ 40) (u * u + 2 * u)) ≡ true → u ≡ unitsOf s
+tested s u e =
+    let low = leb-true (u * u) (s * 2 ^ 40) (and-left (leb (u * u) (s * 2 ^ 40)) (leb (s * 2 ^ 40) (u * u + 2 * u)) e) in
+    let high = leb-true (s * 2 ^ 40) (u * u + 2 * u) (and-right (leb (u * u) (s * 2 ^ 40)) (leb (s * 2 ^ 40) (u * u + 2 * u)) e) in
+    units-one s u (record { low = low; high = omega (arith, high, next u) })
 
 -- ---- a test at each entry
 
