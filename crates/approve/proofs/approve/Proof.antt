@@ -37,7 +37,7 @@ step n = sym (ap handedStep (n .checked .given .1)) ∙ n .before .before .check
 check-routes-requires : tie.Need-check-routes-requires
 check-routes-requires c κs = search needs
 
--- what is judged behind it is the route file
+-- what is judged after the job is the route file
 routes : (k : tie.After-check-routes)
     → Checked (now (k .before .before .before .before .before .before .before .before .before .before .before .before .before .before .args .file)) (k .check-routes .result)
 routes k = k .check-routes .ensures

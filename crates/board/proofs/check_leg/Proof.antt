@@ -1,6 +1,6 @@
 -- `board::check_leg` answers by the rows 1 to 5.
 use mathlib.Core.Path.{_≡_, sym, ap, _∙_}
-use mathlib.Core.Bool.{true, false}
+use mathlib.Core.Bool.{false}
 use borrow.Author.Needs.{needs}
 use denote.Ref.{now}
 use Rattle.laws.proofs.Tests.{answered-no, answered-yes}
