@@ -8,7 +8,7 @@ use mathlib.Core.List.{List}
 use native.Mathlib.Omega.{arith}
 use lib.ListN.{length, take}
 use Rattle.laws.proofs.Tests.{order}
-use Rattle.board.specs.Board.{Board, number}
+use Rattle.board.specs.Board.{Board, vertices, number}
 use Rattle.board.specs.Handed.{Handed}
 use Rattle.legs.specs.Pinched.{admitted}
 use Rattle.legs.specs.Neighbours.{visible}
@@ -16,7 +16,7 @@ use Rattle.legs.proofs.Visible.{start-admitted, goal-admitted, unpinched-admitt
 use Rattle.reach.specs.Reach.{Reach}
 use Rattle.reach.specs.Turns.{at}
 use Rattle.joined.proofs.Chains.{list-joined}
-use Rattle.problem.specs.Problem.{problem}
+use Rattle.problem.specs.Problem.{seesFrom, problem}
 use Rattle.router.specs.Answers.{Route, Slices, Routed}
 use Rattle.router.proofs.Demands.{route-exhaustive, route-rightly, route-unpinched}
 use Rattle.closing.specs.Demands.{HasPath, thePath, Row, holds, passed, GivenBySearch, Given, Searched, Leads, AnyAngle}
@@ -48,9 +48,10 @@ module _ {b : Board} {sx sy gx gy : ℕ} {list : List ℕ} (L : Leads b sx sy gx
   pub leads-joined : HasPath b sx sy gx gy
   leads-joined =
       let few : 0 < length list = L .some in
+      let on : (i : ℕ) → i ≤ length list - 1 → at list i < vertices b = λ i l. L .on-board i (omega arith) in
+      let seen : (i : ℕ) → i < length list - 1 → seesFrom b (at list i) (at list (i + 1)) ≡ true = λ i l. L .sight i (omega arith) in
       subst₂ (λ (s t : ℕ). Reach (visible b start goal) s t) (L .first) (L .last)
-      (list-joined b start goal list (length list - 1) (λ i l. L .on-board i (omega arith)) (λ i l. L .sight i (omega arith))
-      (λ i l. leads-admitted i (omega arith)))
+      (list-joined b start goal list (length list - 1) on seen (λ i l. leads-admitted i (omega arith)))
 
 -- ---- what number such a request gets
 

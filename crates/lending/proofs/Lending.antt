@@ -9,7 +9,7 @@ use Rattle.lending.specs.declared.Lengths.{Lengths}
 use Rattle.lending.specs.Short.{lentRows}
 
 module _ (width height nets : ℕ) (lent : Lengths) where
-  abbrev isWorkShort : Bool
+  abbrev pub isWorkShort : Bool
   isWorkShort =
       let vertices = (width + 1) * (height + 1) in
       ltb (lent .g) vertices || (ltb (lent .parents) vertices || (ltb (lent .marks) vertices || ltb (lent .legs) vertices))

@@ -7,6 +7,7 @@ use Rattle.refusals.specs.Refusals.{refusalRow}
 use Rattle.steps.specs.Steps.{handedStep}
 use Rattle.faults.specs.Inner.{jobStep}
 use Rattle.faults.proofs.Judging.{whole-next, whole-stopped}
+use Rattle.readback.specs.Inner.{Checked}
 use Rattle.bureau.proofs.Answering.{job-refused, file-refused}
 use Rattle.approve.proofs.approve.Statement.{statement}
 use Rattle.approve.proofs.approve.Tie as tie
@@ -36,6 +37,11 @@ step n = sym (ap handedStep (n .checked .given .1)) ∙ n .before .before .check
 check-routes-requires : tie.Need-check-routes-requires
 check-routes-requires c κs = search needs
 
+-- what is judged after the job is the route file
+routes : (k : tie.After-check-routes)
+    → Checked (now (k .before .before .before .before .before .before .before .before .before .before .before .before .before .before .args .file)) (k .check-routes .result)
+routes k = k .check-routes .ensures
+
 enum-known-why : tie.Need-enum-known-why
 enum-known-why c = search needs
 
@@ -44,7 +50,7 @@ returns-2 c =
     let no = c .before in
     let judged = no .before .before in
     let accepted = whole-next _ (step (judged .before .before)) .0 in
-    file-refused _ _ _ (accepted .passed) (no .why2 .given .0 .0) (rw (no .why2 .given .1) at (judged .check-routes .ensures))
+    file-refused _ _ _ (accepted .passed) (no .why2 .given .0 .0) (rw (no .why2 .given .1) at (routes judged))
 
 enum-told-2 : tie.Need-enum-told-2
 enum-told-2 c = search needs
@@ -54,7 +60,7 @@ approve-accepted-requires c κs =
     let yes = c .before .before .before .before .before .before .before in
     let judged = yes .before .before in
     let whole = whole-next _ (step (judged .before .before)) in
-    record { accepted = whole .0; whole-is = whole .1; clean = (rw (yes .enum-told2 .given .1) at (judged .check-routes .ensures)) .0 }
+    record { accepted = whole .0; whole-is = whole .1; clean = (rw (yes .enum-told2 .given .1) at (routes judged)) .0 }
 
 returns-3 : tie.Need-returns-3
 returns-3 c = search needs

@@ -3,9 +3,10 @@ use native.Mathlib.Omega.{arith}
 use native.Mathlib.Nat.{mul-le-mul}
 use borrow.Author.Needs.{needs}
 use denote.Ref.{now}
-use mathlib.Core.Path.{sym}
+use mathlib.Core.Path.{_≡_, sym}
 use Rattle.bureau.specs.Answers.{Searching, searching, Slices, slices}
-use Rattle.approve.proofs.Approving.{Enough, narrow, low, stops-short, enough, on-job, full, room-is, results-room, decided}
+use Rattle.lending.specs.Short.{shortRow, lentRows}
+use Rattle.approve.proofs.Approving.{lengths, Enough, narrow, low, stops-short, enough, on-job, full, room-is, results-room, decided}
 use Rattle.approve.proofs.approve_accepted.Statement.{statement}
 use Rattle.approve.proofs.approve_accepted.Tie as tie
 
@@ -21,19 +22,24 @@ lent s =
 too-short-requires : tie.Need-too-short-requires
 too-short-requires c κs = let p = c .before .before .before .before .before .before .before .before .before .pre in (narrow p, low p)
 
+-- each slice is judged by its own length
+room : (k : tie.After-too-short) → let s = began k in let p = s .args .whole in
+    shortRow (k .too-short .result) ≡ lentRows (p .width) (p .height) (p .nets) (lengths (lent s))
+room k = k .too-short .ensures
+
 returns : tie.Need-returns
 returns c =
     let n = c .before .before in
     let k = n .before in
     let s = began k in
-    stops-short (s .pre) (lent s) (k .too-short .result) (k .too-short .ensures) (n .is-nothing .ensures) (c .before .if1 .taken) (c .answer .ensures .0) (c .answer .ensures .1)
+    stops-short (s .pre) (lent s) (k .too-short .result) (room k) (n .is-nothing .ensures) (c .before .if1 .taken) (c .answer .ensures .0) (c .answer .ensures .1)
 
 -- all three have passed
 abbrev start : tie.Else1 → tie.Start
 start e = began (e .before .before)
 
 long : (e : tie.Else1) → Enough (start e .args .whole) (lent (start e))
-long e = enough (start e .pre) (lent (start e)) (e .before .before .too-short .result) (e .before .before .too-short .ensures) (e .before .is-nothing .ensures) (e .if1 .left)
+long e = enough (start e .pre) (lent (start e)) (e .before .before .too-short .result) (room (e .before .before)) (e .before .is-nothing .ensures) (e .if1 .left)
 
 mul-cells : tie.Need-mul-cells
 mul-cells c = let p = start c .pre in omega (arith, mul-le-mul (narrow p) (low p))

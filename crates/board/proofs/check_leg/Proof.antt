@@ -1,9 +1,10 @@
 -- `board::check_leg` answers by the rows 1 to 5.
 use mathlib.Core.Path.{_≡_, sym, ap, _∙_}
+use mathlib.Core.Bool.{false}
 use borrow.Author.Needs.{needs}
 use denote.Ref.{now}
 use Rattle.laws.proofs.Tests.{answered-no, answered-yes}
-use Rattle.board.specs.Board.{Board, board}
+use Rattle.board.specs.Board.{Board, board, isVertex}
 use Rattle.board.specs.Handed.{Verdict, andThen, passes, verdict, boardRows}
 use Rattle.board.proofs.Rows.{ends-first, ends-second, ends-pass}
 use Rattle.board.proofs.Verdicts.{passes-on, checked-refuses}
@@ -36,7 +37,9 @@ is-vertex-requires c κs = search needs
 returns-2 : tie.Need-returns-2
 returns-2 c =
     let k = c .before .before in
-    sym (board-passes k _ ∙ ends-first (asked k) _ _ _ _ (answered-no (c .before .is-vertex .ensures) (c .if1 .taken)))
+    let a = k .before .before .before .before .args in
+    let first : isVertex (asked k) (a .ax) (a .ay) ≡ false = answered-no (c .before .is-vertex .ensures) (c .if1 .taken) in
+    sym (board-passes k _ ∙ ends-first (asked k) _ _ _ _ first)
 
 is-vertex-requires-2 : tie.Need-is-vertex-requires-2
 is-vertex-requires-2 c κs = search needs

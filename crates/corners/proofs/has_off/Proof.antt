@@ -1,10 +1,12 @@
 -- `corners::has_off` looks at each vertex. The loop's invariant: none before is off.
 use mathlib.Core.Path.{_≡_, refl, sym}
-use Prim.Native.Nat.{_-_, _≤_}
+use Prim.Native.Nat.{_-_, _≤_, _<_}
 use native.Mathlib.Omega.{arith}
 use borrow.Author.Needs.{needs}
-use lib.ListN.{length}
+use lib.ListN.{length, getD}
 use Rattle.laws.proofs.Below.{none-yet}
+use Rattle.board.specs.Limits.{largestSide}
+use Rattle.board.specs.Board.{rowOf}
 use Rattle.corners.proofs.Points.{isOff, OnBefore, off-here, on-next, none-off}
 use Rattle.corners.proofs.has_off.Statement.{statement}
 use Rattle.corners.proofs.has_off.Tie as tie
@@ -33,7 +35,8 @@ returns c =
     let at = read .before .before .before in
     let l = at .loop in
     let a = at .before .before .args in
-    sym (off-here (a .path .now) (a .width) (l .k) (l .inv .2) (omega (arith, c .if1 .taken, read .row-of .ensures)) (omega (arith, l .inv .1)))
+    let below : largestSide < rowOf (a .width) (getD (a .path .now) (l .k) 0) = omega (arith, c .if1 .taken, read .row-of .ensures) in
+    sym (off-here (a .path .now) (a .width) (l .k) (l .inv .2) below (omega (arith, l .inv .1)))
 
 add-k : tie.Need-add-k Inv-loop μ-loop
 add-k c = omega arith

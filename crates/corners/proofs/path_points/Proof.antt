@@ -1,6 +1,8 @@
 -- `corners::path_points` answers by the rows 1, 4 and 21, and writes the points where they pass.
 use mathlib.Core.Path.{_≡_, sym, _∙_}
-use mathlib.Core.Bool.{true, false}
+use mathlib.Core.Bool.{true, false, _||_}
+use lib.Dec.{ltb}
+use lib.ListN.{length}
 use borrow.Author.Needs.{needs}
 use Rattle.laws.proofs.Tests.{answered-no, answered-yes}
 use Rattle.board.specs.Handed.{sideFits}
@@ -31,17 +33,22 @@ returns-2 c = let h = c .before in told-off _ _ _ _ (fits (h .before)) (sym (h .
 on : (c : tie.Else2) → hasOff (start (c .before .before) .args .path .now) (start (c .before .before) .args .width) ≡ false
 on c = sym (c .before .has-off .ensures) ∙ c .if2 .left
 
+-- what is not refused by 21 has two slices as long as the path
+long : (c : tie.Else3) → let a = start (c .before .before .before) .args in
+    (ltb (length (a .xs .now)) (length (a .path .now)) || ltb (length (a .ys .now)) (length (a .path .now))) ≡ false
+long c = c .if3 .left
+
 returns-3 : tie.Need-returns-3
 returns-3 c = let o = c .before in told-short _ _ _ _ (fits (o .before .before)) (on o) (c .if3 .taken)
 
 tell-points-requires : tie.Need-tell-points-requires
 tell-points-requires c κs =
-    let long = c .before .before in
-    let o = long .before in
+    let last = c .before .before in
+    let o = last .before in
     let known = o .before .before in
     let a = start known .args in
     let f = fits known in
-    ((side-le (a .width) f, on o), roomy (a .path .now) (a .width) (a .xs .now) (a .ys .now) f (on o) (long .if3 .left))
+    ((side-le (a .width) f, on o), roomy (a .path .now) (a .width) (a .xs .now) (a .ys .now) f (on o) (long last))
 
 same-length : tie.Need-same-length
 same-length c = search needs
@@ -52,9 +59,9 @@ same-length-2 c = search needs
 returns-4 : tie.Need-returns-4
 returns-4 c =
     let told = c .before .before .before .before in
-    let long = told .before .before .before in
-    let o = long .before in
-    told-done _ _ _ _ (fits (o .before .before)) (on o) (long .if3 .left) (told .tell-points .ensures .0) (told .tell-points .ensures .1)
+    let last = told .before .before .before in
+    let o = last .before in
+    told-done _ _ _ _ (fits (o .before .before)) (on o) (long last) (told .tell-points .ensures .0) (told .tell-points .ensures .1)
 
 pub path-points-spec : {M : Type 1} → statement M
 path-points-spec =

@@ -1,5 +1,5 @@
 -- `direction::aim` gives the direction of a leg, refused by 9 where its ends are equal.
-use mathlib.Core.Path.{_≡_, _∙_}
+use mathlib.Core.Path.{_≡_, ap, _∙_}
 use mathlib.Core.Bool.{false, _&&_}
 use Prim.Native.Nat.{_^_, _≤_, _<_}
 use lib.IntN.{ℤ, natAbs}
@@ -12,6 +12,7 @@ use Rattle.length.specs.Units.{square, units}
 use Rattle.spans.proofs.Signed.{narrow, narrowed, zero-test}
 use Rattle.length.proofs.Units.{units-positive, units-fit, different}
 use Rattle.spans.proofs.Legs.{small-as}
+use Rattle.direction.specs.Answers.{quotient}
 use Rattle.direction.proofs.Answers.{aim-equal, aim-of}
 use Rattle.direction.proofs.aim.Statement.{statement}
 use Rattle.direction.proofs.aim.Tie as tie
@@ -63,7 +64,10 @@ returns-2 : tie.Need-returns-2
 returns-2 c =
     let k = c .before .before in
     let s = k .before .before in
-    rw (c .before .ratio .ensures, c .ratio2 .ensures, narrow (s .args .dx) (s .fits .dx), narrow (s .args .dy) (s .fits .dy), units-are k)
+    let u = k .units-of .result in
+    let x : c .before .ratio .result ≡ quotient (s .args .dx) u = c .before .ratio .ensures ∙ ap (λ (d : ℤ). quotient d u) (narrow (s .args .dx) (s .fits .dx)) in
+    let y : c .ratio2 .result ≡ quotient (s .args .dy) u = c .ratio2 .ensures ∙ ap (λ (d : ℤ). quotient d u) (narrow (s .args .dy) (s .fits .dy)) in
+    rw (x, y, units-are k)
     (aim-of (s .args .dx) (s .args .dy) (apart (k .before)))
 
 pub aim-spec : {M : Type 1} → statement M

@@ -1,11 +1,11 @@
 -- `filling::first_filling` looks at the last byte of each row. The loop's invariant: no byte of the rows before has a
 -- filling bit set.
 use mathlib.Core.Path.{_≡_}
-use Prim.Native.Nat.{ℕ, _+_, _*_, _-_, _≤_, _<_}
+use Prim.Native.Nat.{ℕ, _+_, _*_, _-_, _%_, _^_, _≤_, _<_}
 use native.Mathlib.Nat.{mul-le-mul}
 use native.Mathlib.Omega.{arith}
 use borrow.Author.Needs.{needs}
-use lib.ListN.{length}
+use lib.ListN.{length, getD}
 use lib.Pow.{pow-pos}
 use Rattle.laws.specs.Below.{firstWhere}
 use Rattle.bits.specs.Packed.{rowBytes, hasFilling}
@@ -106,13 +106,16 @@ loop-again c =
     let inside = c .before .before in
     let k = inside .before .before in
     let s = start k in
+    let last = inside .before .loop .end * k .row-bytes .result - 1 in
+    let fill = k .row-bytes .result * 8 - s .args .width in
+    let unset : getD (s .args .packed .now) last 0 % (1 * 2 ^ fill % 256) ≡ 0 = omega (arith, c .if1 .left) in
     let back : inside .before .loop .end + 1 - 1 ≡ inside .before .loop .end = omega arith in (
       omega arith,
       omega arith,
       rw back
           (filling-passed (s .args .packed .now) (s .args .width) (s .pre .sides .wide) (k .row-bytes .ensures)
           (inside .before .loop .end - 1)
-          (counted inside) (inside .before .loop .inv .2) (omega (arith, c .if1 .left))),
+          (counted inside) (inside .before .loop .inv .2) unset),
     )
 
 returns-2 : tie.Need-returns-2 Inv-loop μ-loop

@@ -1,8 +1,10 @@
 -- `job::read_net` checks the whole job and takes out the net.
-use mathlib.Core.Path.{sym, ap, _∙_}
+use mathlib.Core.Path.{_≡_, sym, ap, _∙_}
+use denote.Ref.{now}
 use Rattle.refusals.specs.Refusals.{refusalRow}
 use Rattle.steps.specs.Steps.{handedStep}
 use Rattle.faults.proofs.Judging.{whole-next, whole-stopped}
+use Rattle.job.specs.Answers.{handedNet, netRow}
 use Rattle.job.proofs.Reading.{net-refused}
 use borrow.Author.Needs.{needs}
 use Rattle.job.proofs.read_net.Statement.{statement}
@@ -30,7 +32,10 @@ net-at-requires : tie.Need-net-at-requires
 net-at-requires c κs = whole-next _ (sym (ap handedStep (c .enum-told .given .1)) ∙ c .before .before .check-job .ensures) .0
 
 returns-2 : tie.Need-returns-2
-returns-2 c = search needs
+returns-2 c =
+    let a = c .before .before .before .before .before .args in
+    let taken : handedNet (c .net-at .result) ≡ netRow (now (a .job)) (a .index) = c .net-at .ensures in
+    taken
 
 pub read-net-spec : {M : Type 1} → statement M
 read-net-spec =

@@ -1,12 +1,13 @@
 -- `board::inner::number_of`: every number of the largest board fits a vertex number.
 use native.Mathlib.Omega.{arith}
+use mathlib.Core.Path.{refl}
 use borrow.Author.Needs.{needs}
 use Rattle.board.proofs.Numbers.{number-fits}
 use Rattle.board.proofs.inner.number_of.Statement.{statement}
 use Rattle.board.proofs.inner.number_of.Tie as tie
 
 returns : tie.Need-returns
-returns c = search needs
+returns c = refl
 
 add-result : tie.Need-add-result
 add-result c = search needs

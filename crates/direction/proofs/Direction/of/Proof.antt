@@ -5,7 +5,7 @@ use borrow.Author.Needs.{needs}
 use Rattle.board.specs.Handed.{passes, verdict}
 use Rattle.board.proofs.Verdicts.{accepted, refused-row, refusal-handed}
 use Rattle.spans.specs.Legs.{differenceRows}
-use Rattle.direction.specs.Answers.{noDirection, aimRow, directionRow}
+use Rattle.direction.specs.Answers.{noDirection, handedDirection, aimRow, directionRow}
 use Rattle.spans.proofs.Signed.{narrowed}
 use Rattle.spans.proofs.Legs.{small-as, differences-small}
 use Rattle.direction.proofs.Direction.of.Statement.{statement}
@@ -32,7 +32,9 @@ returns : tie.Need-returns
 unfolding directionRow
 returns c =
     let s = c .before .before .before .before in
-    rw (pass (c .before)) (c .aim .ensures ∙ narrowed (λ (dx dy : ℤ). aimRow dx dy) (s .args .dx) (s .args .dy) (s .fits .dx) (s .fits .dy))
+    let aimed : handedDirection (c .aim .result) ≡ aimRow (s .args .dx) (s .args .dy) =
+    c .aim .ensures ∙ narrowed (λ (dx dy : ℤ). aimRow dx dy) (s .args .dx) (s .args .dy) (s .fits .dx) (s .fits .dy) in
+    rw (pass (c .before)) aimed
 
 returns-2 : tie.Need-returns-2
 unfolding directionRow

@@ -4,6 +4,7 @@ use mathlib.Core.Bool.{true, false}
 use Prim.Native.Nat.{_≤_, _<_}
 use native.Mathlib.Omega.{arith}
 use borrow.Author.Needs.{needs}
+use Rattle.laws.specs.Below.{asNumber}
 use Rattle.gather.specs.Inner.{goesOn}
 use Rattle.gather.proofs.Taking.{goes-below}
 use Rattle.gather.proofs.inner.take_net.Statement.{statement}
@@ -78,7 +79,11 @@ same-length-4 : tie.Need-same-length-4
 same-length-4 c = search needs
 
 returns-2 : tie.Need-returns-2
-returns-2 c = let g = new (c .before) in record { first = rw g; nets-are = rw g; counts-are = rw (g, c .one-if .ensures .0) }
+returns-2 c =
+    let e = c .before in
+    let g = new e in
+    let points : c .one-if .result ≡ asNumber (begun (e .before) .args .point) = c .one-if .ensures .0 in
+    record { first = rw g; nets-are = rw g; counts-are = rw (g, points) }
 
 pub take-net-spec : {M : Type 1} → statement M
 take-net-spec =

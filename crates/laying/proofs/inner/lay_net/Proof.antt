@@ -1,12 +1,15 @@
 -- `laying::inner::lay_net` writes a net's records. The loop's invariant: those of the points before are written.
 use mathlib.Core.Path.{_≡_, ap}
+use mathlib.Core.List.{_++_}
 use Prim.Native.Nat.{_*_, _+_, _-_, _≤_}
 use native.Mathlib.Omega.{arith}
 use borrow.Author.Needs.{needs}
-use lib.ListN.{length}
+use denote.Ref.{now}
+use lib.ListN.{length, take, drop}
 use Rattle.tracks.specs.Answers.{laid}
 use Rattle.tracks.specs.Inner.{recordsFor}
 use Rattle.tally.proofs.Parts.{nonzero}
+use Rattle.laying.specs.Inner.{bytesFor}
 use Rattle.laying.proofs.Written.{upTo, net-none, net-begins, net-kept, net-fits, net-goes, net-ends}
 use Rattle.laying.proofs.inner.lay_net.Statement.{statement}
 use Rattle.laying.proofs.inner.lay_net.Tie as tie
@@ -33,7 +36,9 @@ returns c =
     let put = c .before .before in
     let none = put .before .before in
     let start = none .before .before .before .before in
-    net-none _ _ _ _ _ _ _ (start .pre .2) (none .if1 .taken) (put .put-record .ensures)
+    let a = start .args in
+    let written : put .put-record .last .0 ≡ take (a .at * 8) (now (a .file)) ++ (bytesFor 5 (a .net) 0 0 0 ++ drop (a .at * 8 + 8) (now (a .file))) = put .put-record .ensures in
+    net-none _ _ _ _ _ _ _ (start .pre .2) (none .if1 .taken) written
 
 -- where there are points
 abbrev start : tie.Else1 Inv-loop μ-loop → tie.Start Inv-loop μ-loop

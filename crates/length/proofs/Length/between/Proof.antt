@@ -35,7 +35,9 @@ returns c =
     let a = told .before .before .before .args in
     let dx = k .before .difference .ensures in
     let dy = k .difference2 .ensures in
-    rw (pass told, c .units-of .ensures, small-both (λ (dx dy : ℤ). units dx dy) (step (a .ax) (a .bx)) (step (a .ay) (a .by)) (dx .0) (dy .0) (dx .1) (dy .1))
+    let across : k .before .difference .result ≡ step (a .ax) (a .bx) = dx .0 in
+    let down : k .difference2 .result ≡ step (a .ay) (a .by) = dy .0 in
+    rw (pass told, c .units-of .ensures, small-both (λ (dx dy : ℤ). units dx dy) (step (a .ax) (a .bx)) (step (a .ay) (a .by)) across down (dx .1) (dy .1))
 
 returns-2 : tie.Need-returns-2
 unfolding lengthBetweenRow

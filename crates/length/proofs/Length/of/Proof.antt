@@ -7,7 +7,7 @@ use Rattle.length.specs.Units.{units}
 use Rattle.board.proofs.Verdicts.{accepted, refused-row, refusal-handed}
 use Rattle.spans.specs.Legs.{differenceRows}
 use Rattle.length.specs.Answers.{noLength, lengthRow}
-use Rattle.spans.proofs.Signed.{narrow, narrowed}
+use Rattle.spans.proofs.Signed.{narrowed}
 use Rattle.spans.proofs.Legs.{small-as, differences-small}
 use Rattle.length.proofs.Length.of.Statement.{statement}
 use Rattle.length.proofs.Length.of.Tie as tie
@@ -31,7 +31,9 @@ returns : tie.Need-returns
 unfolding lengthRow
 returns c =
     let s = c .before .before .before .before in
-    rw (pass (c .before), c .units-of .ensures, narrow (s .args .dx) (s .fits .dx), narrow (s .args .dy) (s .fits .dy))
+    let measured : c .units-of .result ≡ units (s .args .dx) (s .args .dy) =
+    c .units-of .ensures ∙ narrowed (λ (dx dy : ℤ). units dx dy) (s .args .dx) (s .args .dy) (s .fits .dx) (s .fits .dy) in
+    rw (pass (c .before), measured)
 
 returns-2 : tie.Need-returns-2
 unfolding lengthRow
