@@ -1,5 +1,5 @@
 #!/bin/sh
-# larger.sh SIDE [NETS]: rows of run.sh for boards of 127, 255 or 511 cells a side, on 8 nets and with 0, 30 and 40 in 100 blocked. The limits are changed in a copy of the
+# larger.sh SIDE [NETS]: rows of run.sh for boards of 127, 255 or 511 cells a side, on 64 nets and with 0, 30 and 40 in 100 blocked. The limits are changed in a copy of the
 # tree (target/larger-SIDE), the library is proved and built there, and the fast router is compiled with the same limit.
 # Of the crates only those below wexxolin are copied: what states the limit itself, route and worked, stays out.
 set -eu
@@ -18,14 +18,17 @@ esac
 copy=$root/target/larger-$side
 mkdir -p "$copy/crates" "$copy/tests"
 
-# below CRATE: the crates that CRATE is built on, itself among them
-below() {
-    echo "$1"
-    for one in $(sed -n "s/^$1://p" "$root/crates.txt"); do
-        below "$one"
-    done
-}
-crates=$(below wexxolin | sort -u)
+# the crates that wexxolin is built on, itself among them
+crates=$(awk '
+    { sub(/#.*/, ""); i = index($0, ":"); if (i) below[substr($0, 1, i - 1)] = substr($0, i + 1) }
+    END {
+        list[count = 1] = "wexxolin"
+        for (k = 1; k <= count; k++) {
+            print list[k]
+            n = split(below[list[k]], more, " ")
+            for (m = 1; m <= n; m++) if ((more[m] in below) && !seen[more[m]]++) list[++count] = more[m]
+        }
+    }' "$root/crates.txt")
 rm -rf "$copy/crates" "$copy/bench" "$copy/include"
 mkdir "$copy/crates"
 grep -E "^($(echo $crates | tr ' ' '|')):" "$root/crates.txt" > "$copy/crates.txt"
@@ -51,4 +54,4 @@ changed include/wexxolin.h "typedef uint16_t wexxolin_vertex;" "typedef uint${bi
 
 cd "$copy"
 rt staticlib wexxolin >&2
-OUT=$copy/target/outside SIDE=$side PERCENTS=${PERCENTS:-0 30 40} exec bench/run.sh "${2:-8}"
+OUT=$copy/target/outside SIDE=$side PERCENTS=${PERCENTS:-0 30 40} exec bench/run.sh "${2:-64}"

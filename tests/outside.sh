@@ -1,6 +1,6 @@
 #!/bin/sh
 # outside.sh [SCALE [SEED]]: everything that is tried from outside, on the library and the route program that are built already.
-# The routes, the thrown jobs and what is lost run beside the rest. The last line counts the comparisons of programs: 'N passed, 0 failed'.
+# All of it runs side by side. The last line counts the comparisons of programs: 'N passed, 0 failed'.
 set -eu
 . "$(dirname "$0")/settings.sh"
 scale=${1:-$SCALE} seed=${2:-1}
@@ -45,17 +45,16 @@ build example "$root/examples/route.c"
 finish agree
 build agree "$OUT/agree.o" "$rooms" "$boards" "$second"
 
-beside routes $RUN "$OUT/agree" "$scale" "$seed" "$OUT/agree-difference.hex" routes
-beside thrown $RUN "$OUT/thrown" "${scale%/*}" "$seed" "$root/tests/run_route.sh"
+# Everything at once: most of them take one core, some only wait.
 beside lost "$root/tests/lost.sh" "$root/tests/run_route.sh"
-
-$RUN "$OUT/agree" "$scale" "$seed" "$OUT/agree-difference-others.hex" others
-$RUN "$OUT/far" "$scale" "$seed"
-$RUN "$OUT/packed" "$scale" "$seed"
-$RUN "$OUT/angles" "$scale" "$seed"
-$RUN "$OUT/printed" "$scale" "$seed"
-$RUN "$OUT/records" "$scale" "$seed"
-$RUN "$OUT/check" "$scale" "$seed"
+beside thrown $RUN "$OUT/thrown" "${scale%/*}" "$seed" "$root/tests/run_route.sh"
+beside jobs "$root/tests/run_jobs.sh" "$root/tests/run_route.sh"
+beside command "$root/tests/command.sh" "$seed"
+beside routes $RUN "$OUT/agree" "$scale" "$seed" "$OUT/agree-difference.hex" routes
+beside others $RUN "$OUT/agree" "$scale" "$seed" "$OUT/agree-difference-others.hex" others
+for name in far packed angles printed records check; do
+    beside $name $RUN "$OUT/$name" "$scale" "$seed"
+done
 
 # the figure that the header states for its callers
 kib=$(sed -n 's/.* \([0-9][0-9]*\) KiB of stack.*/\1/p' "$root/include/wexxolin.h" | sort -n | tail -n 1)
@@ -66,17 +65,17 @@ $RUN "$OUT/example" > "$OUT/example.out"
 cmp "$OUT/example.out" "$root/examples/route.expected"
 echo "the C example prints what it should"
 
-"$root/tests/command.sh" "$seed"
-
-jobs=$("$root/tests/run_jobs.sh" "$root/tests/run_route.sh")
-echo "$jobs" | tail -n 3
-passed=$(echo "$jobs" | tail -n 1 | sed -n 's/^\([0-9]*\) passed, 0 failed$/\1/p')
-[ -n "$passed" ] || exit 1
-finish thrown
-finish lost
-lost=$(sed -n 's/^\([0-9]*\) passed, 0 failed$/\1/p' "$OUT/lost.out")
-[ -n "$lost" ] || exit 1
-finish routes
+for name in others far packed angles printed records check command jobs thrown lost routes; do
+    finish $name
+done
 running=
 
-echo "$((passed + lost + 12)) passed, 0 failed"
+# passed NAME: how many comparisons of programs it counted
+passed() {
+    counted=$(sed -n 's/^\([0-9]*\) passed, 0 failed$/\1/p' "$OUT/$1.out")
+    [ -n "$counted" ] || { echo "$1 did not say how many passed" >&2; exit 1; }
+    echo "$counted"
+}
+jobs=$(passed jobs)
+lost=$(passed lost)
+echo "$((jobs + lost + 12)) passed, 0 failed"
