@@ -83,7 +83,9 @@ module _ (b : Board) (sx sy gx gy : ℕ) (S : OnBoard b sx sy) where
         let l = path p ((search p) .state) in
         record {
           between = λ i h j.
-              let B = search-between (board-fair b sx sy gx gy S) (board-legs b sx sy gx gy) f i h j in
+              -- the vertex is neither the first nor the last
+              let inner : (0 < i) × (i + 1 < length l) = (h, j) in
+              let B = search-between (board-fair b sx sy gx gy S) (board-legs b sx sy gx gy) f i (inner .0) (inner .1) in
               reached-unpinched b (number b sx sy) (number b gx gy) (at l i) (B .reached) (B .not-start) (B .not-goal);
           legs = λ i j x y w. false-of (pinched b x y) (inside-unpinched b (column b (at l i)) (row b (at l i)) (column b (at l (i + 1)))
               (row b (at l (i + 1))) (board-route .sight i j) x y w);

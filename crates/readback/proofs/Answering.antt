@@ -60,7 +60,7 @@ module _ (file : List ℕ) {p : Progress} (known : (fileRows file ≡ passes) ×
         (ltb (length (lent .nets)) (p .nets) || ltb (length (lent .counts)) (p .nets))
         || (ltb (length (lent .xs)) (p .points) || ltb (length (lent .ys)) (p .points))
 
-    short-is : short ≡ isShort (laidOut (routesIn file)) lent
+    pub short-is : short ≡ isShort (laidOut (routesIn file)) lent
     unfolding isShort
     short-is =
         let c : length (countsOf (routesIn file)) ≡ p .nets = counts-length (routesIn file) ∙ sym nets-are in
@@ -68,16 +68,14 @@ module _ (file : List ℕ) {p : Progress} (known : (fileRows file ≡ passes) ×
         all-length (λ (a : Point). a .y) (λ (a : Point). a .x) (routesIn file) ∙ sym points-are in
         rw (c, y, sym nets-are, sym points-are)
 
-    pub read-short : short ≡ true → RoutesRead file lent (handedRead Short) lent
+    pub read-short : isShort (laidOut (routesIn file)) lent ≡ true → RoutesRead file lent (handedRead Short) lent
     unfolding readRows readRow
-    read-short s =
-        let e : isShort (laidOut (routesIn file)) lent ≡ true = sym short-is ∙ s in
-        record { row-is = rw (known .0, e); after-is = rw (known .0, e) }
+    read-short e = record { row-is = rw (known .0, e); after-is = rw (known .0, e) }
 
-    module _ (s : short ≡ false) where
+    module _ (e : isShort (laidOut (routesIn file)) lent ≡ false) where
       pub read-room : Room file lent (p .nets) (p .points)
       read-room =
-          let (a, b) = or-neither (ltb (length (lent .nets)) (p .nets) || ltb (length (lent .counts)) (p .nets)) _ s in
+          let (a, b) = or-neither (ltb (length (lent .nets)) (p .nets) || ltb (length (lent .counts)) (p .nets)) _ (short-is ∙ e) in
           let (n, c) = or-neither (ltb (length (lent .nets)) (p .nets)) (ltb (length (lent .counts)) (p .nets)) a in
           let (x, y) = or-neither (ltb (length (lent .xs)) (p .points)) (ltb (length (lent .ys)) (p .points)) b in
           record {
@@ -93,7 +91,6 @@ module _ (file : List ℕ) {p : Progress} (known : (fileRows file ≡ passes) ×
           → RoutesRead file lent (handedRead (Read (p .nets) (p .points))) (slices nets counts xs ys)
       unfolding readRows readRow
       read-done g =
-          let e : isShort (laidOut (routesIn file)) lent ≡ false = sym short-is ∙ s in
           let rows : readRows file lent ≡ passes = rw (known .0, e) in
           record {
             row-is = rw (known .0, e, nets-are, points-are);

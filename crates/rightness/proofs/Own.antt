@@ -67,7 +67,10 @@ module _ (b : Board) (net : Net) (S : OnBoard b (net .sx) (net .sy)) (G : OnBoar
         on = λ k l. rw (at-is k l) (vertex-on (at vs k) (R .on k (omega arith)));
         differ = λ k l s. R .differ k (omega arith) (told-apart (at vs k) (at vs (k + 1)) (sym (at-is k (omega arith)) ∙ s ∙ at-is (k + 1) (omega arith)));
         sight = λ k l. rw (at-is k (omega arith), at-is (k + 1) (omega arith)) (R .sight k (omega arith));
-        unpinched = λ k l. rw (at-is (k + 1) (omega arith)) (U .between (k + 1) (omega arith) (omega arith));
+        unpinched = λ k l.
+            -- the vertex is not the last, which may be pinched
+            let inner : k + 2 < length ps = l in
+            rw (at-is (k + 1) (omega arith)) (U .between (k + 1) (omega arith) (omega arith));
       }
     where
       ends : (x y : ℕ) → OnBoard b x y → vertexPoint b (number b x y) ≡ point x y

@@ -67,7 +67,7 @@ module _ (b : Board) (net : Net) (ps : List Point) where
         on = λ k h. not-false _ (first-before (λ (i : ℕ). isOff b (pointAt ps i)) n k (omega arith));
         differ = λ k h s. true≢false (sym (points-same (pointAt ps k) (pointAt ps (k + 1)) s) ∙ or-neither (isSame (pointAt ps k) (pointAt ps (k + 1))) _ (fine k h) .0);
         sight = λ k h.
-            let rest = or-neither (isSame (pointAt ps k) (pointAt ps (k + 1))) _ (fine k h) .1 in
+            let rest = or-neither (isSame (pointAt ps k) (pointAt ps (k + 1))) _ (fine k (omega arith)) .1 in
             not-false _ (or-neither (not (sees b (pointAt ps k .x) (pointAt ps k .y) (pointAt ps (k + 1) .x) (pointAt ps (k + 1) .y))) _ rest .0);
         unpinched = λ k h.
             let rest = or-neither (isSame (pointAt ps k) (pointAt ps (k + 1))) _ (fine k (omega arith)) .1 in
@@ -95,11 +95,13 @@ module _ (b : Board) (net : Net) (ps : List Point) where
       fine k h =
           let apart : isSame (pointAt ps k) (pointAt ps (k + 1)) ≡ false =
           false-of _ (λ s. r .differ k h (same-points (pointAt ps k) (pointAt ps (k + 1)) s)) in
+          -- every leg of a right path has sight, the last too
+          let seen : sees b (pointAt ps k .x) (pointAt ps k .y) (pointAt ps (k + 1) .x) (pointAt ps (k + 1) .y) ≡ true = r .sight k (omega arith) in
           ⊎-elim
-          (λ (last : eqb (k + 2) (length ps) ≡ true). rw (apart, r .sight k h, last) (never (pinched b (pointAt ps (k + 1) .x) (pointAt ps (k + 1) .y))))
+          (λ (last : eqb (k + 2) (length ps) ≡ true). rw (apart, seen, last) (never (pinched b (pointAt ps (k + 1) .x) (pointAt ps (k + 1) .y))))
           (λ (last : eqb (k + 2) (length ps) ≡ false).
           let more = eqb-apart (k + 2) (length ps) last in
-          rw (apart, r .sight k h, r .unpinched k (omega arith)))
+          rw (apart, seen, r .unpinched k (omega arith)))
           (bool-cases (eqb (k + 2) (length ps)))
         where
           never : (t : Bool) → (t && false) ≡ false
@@ -168,7 +170,10 @@ module _ (job : List ℕ) (rs : List Route) (S : (k : ℕ) → k < nets job → 
   unfolding oddNet netsRows
   right-file r =
       let none : firstWhere netNumbers (isOdd job rs) ≡ netNumbers =
-      none-below (isOdd job rs) netNumbers (λ k l. rw (r .same k l) (never (inRoutes rs k))) in
+      none-below (isOdd job rs) netNumbers (λ k l.
+      -- a right file has the net if the job has it, and only then
+      let same : inJob job k ≡ inRoutes rs k = r .same k (omega arith) in
+      rw same (never (inRoutes rs k))) in
       (rw none, all-pass (nets job) (omega arith) (λ k l. right-net (jobBoard job) (jobNet job k) (S k l) (pointsFor rs (jobNet job k .number)) (r .each k l)))
     where
       never : (b : Bool) → ((b && not b) || (not b && b)) ≡ false

@@ -1,6 +1,6 @@
 -- The route call's answer and slices, from its steps. Assumes nothing.
 use mathlib.Core.Path.{_≡_, refl, _∙_}
-use mathlib.Core.Bool.{true, false, _||_}
+use mathlib.Core.Bool.{false, _||_}
 use Prim.Native.Nat.{ℕ, _≤_}
 use lib.Dec.{ltb}
 use lib.ListN.{length}
@@ -44,10 +44,8 @@ module _ (b : Board) (sx sy gx gy : ℕ) (before : Slices) where
 
   module _ (a : legRows b sx sy gx gy ≡ passes) where
     -- refused for a short work slice: nothing is written
-    pub routed-short : let n = vertices b in
-        (ltb (length (before .g)) n || (ltb (length (before .parents)) n || (ltb (length (before .marks)) n || ltb (length (before .legs)) n))) ≡ true
-        → Routed b sx sy gx gy before before (judged noRoute (refused 6 0 0))
-    unfolding routeRow workRow
+    pub routed-short : workRow (vertices b) before ≡ refused 6 0 0 → Routed b sx sy gx gy before before (judged noRoute (refused 6 0 0))
+    unfolding routeRow
     routed-short s = record { row-is = rw (a, s); after-is = refl }
 
     -- searched

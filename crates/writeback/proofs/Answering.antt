@@ -36,20 +36,18 @@ module _ (s : Slices) {n p : ℕ} (r : Right s n p) (before : List ℕ) where
   abbrev short : Bool
   short = (ltb (length (s .counts)) (length (s .nets)) || ltb (length before) (n * 8)) || (ltb (length (s .xs)) p || ltb (length (s .ys)) p)
 
-  short-is : short ≡ isLacking s (length before)
+  pub short-is : short ≡ isLacking s (length before)
   unfolding isLacking
   short-is = rw (r .long, sym (r .points-are))
 
-  pub write-short : short ≡ true → RoutesWritten s before (handedWrite Short) before
+  pub write-short : isLacking s (length before) ≡ true → RoutesWritten s before (handedWrite Short) before
   unfolding writeRows writeRow
-  write-short t =
-      let e : isLacking s (length before) ≡ true = sym short-is ∙ t in
-      record { row-is = rw (r .passed, e); after-is = rw (r .passed, e) }
+  write-short e = record { row-is = rw (r .passed, e); after-is = rw (r .passed, e) }
 
-  module _ (t : short ≡ false) where
+  module _ (e : isLacking s (length before) ≡ false) where
     pub write-fitting : Fitting s (length before)
     write-fitting =
-        let (a, b) = or-neither (ltb (length (s .counts)) (length (s .nets)) || ltb (length before) (n * 8)) _ t in
+        let (a, b) = or-neither (ltb (length (s .counts)) (length (s .nets)) || ltb (length before) (n * 8)) _ (short-is ∙ e) in
         let (c, f) = or-neither (ltb (length (s .counts)) (length (s .nets))) (ltb (length before) (n * 8)) a in
         let (x, y) = or-neither (ltb (length (s .xs)) p) (ltb (length (s .ys)) p) b in
         let room = ltb-false (length before) (n * 8) f in
@@ -64,7 +62,6 @@ module _ (s : Slices) {n p : ℕ} (r : Right s n p) (before : List ℕ) where
     pub write-done : {after : List ℕ} → after ≡ laid (fileFor s) before → RoutesWritten s before (handedWrite (Written n)) after
     unfolding writeRows writeRow
     write-done g =
-        let e : isLacking s (length before) ≡ false = sym short-is ∙ t in
         let rows : writeRows s (length before) ≡ passes = rw (r .passed, e) in
         let many : records (fileFor s) ≡ n = omega (arith, r .long) in
         record {

@@ -1,14 +1,15 @@
 -- `router::route` answers by the rows 1 to 8, and leaves in the slices what they say.
 use mathlib.Core.Path.{_≡_, sym, ap, _∙_}
+use mathlib.Core.Bool.{Bool}
 use native.Mathlib.Omega.{arith}
 use borrow.Author.Needs.{needs}
 use denote.Ref.{now}
-use Rattle.board.specs.Board.{Board, board}
+use Rattle.board.specs.Board.{Board, board, vertices}
 use Rattle.board.specs.Inner.{Sound}
-use Rattle.board.specs.Handed.{passes, verdict, legRows}
+use Rattle.board.specs.Handed.{passes, refused, row, verdict, legRows}
 use Rattle.board.proofs.Numbers.{vertices-few}
 use Rattle.board.proofs.Rows.{leg-sound, leg-first, leg-second}
-use Rattle.answer.specs.Answers.{handedRoute, Slices, slices}
+use Rattle.answer.specs.Answers.{handedRoute, Slices, slices, workRow}
 use Rattle.router.proofs.Routing.{rooms, routed-refused, routed-short, routed-ran}
 use Rattle.router.proofs.route.Statement.{statement}
 use Rattle.router.proofs.route.Tie as tie
@@ -30,13 +31,18 @@ check-leg-requires c κs = search needs
 enum-known-checked : tie.Need-enum-known-checked
 enum-known-checked c = search needs
 
+-- the check judges the start as the first vertex, and the goal as the second
+checked-is : (k : tie.After-check-leg) →
+    let s = began k in verdict (k .check-leg .result) ≡ legRows (asked s) (s .args .sx) (s .args .sy) (s .args .gx) (s .args .gy)
+checked-is k = k .check-leg .ensures
+
 returns : tie.Need-returns
 returns c =
     let k = c .before .before .before in
     let s = began k in
     let a = s .args in
     routed-refused (asked s) (a .sx) (a .sy) (a .gx) (a .gy) (lent s) (k .check-leg .result) (c .before .checked .given .0 .0)
-    (c .before .checked .given .1) (k .check-leg .ensures)
+    (c .before .checked .given .1) (checked-is k)
 
 enum-told : tie.Need-enum-told
 enum-told c = search needs
@@ -44,7 +50,7 @@ enum-told c = search needs
 -- it passes the checks 1 to 5, on a sound board
 leg-passes : (c : tie.After-enum-told) →
     let s = began (c .before .before) in legRows (asked s) (s .args .sx) (s .args .sy) (s .args .gx) (s .args .gy) ≡ passes
-leg-passes c = sym (c .before .before .check-leg .ensures) ∙ ap verdict (c .enum-told .given .1)
+leg-passes c = sym (checked-is (c .before .before)) ∙ ap verdict (c .enum-told .given .1)
 
 sound : (c : tie.After-enum-told) → Sound (asked (began (c .before .before)))
 sound c = leg-sound _ _ _ _ _ (leg-passes c)
@@ -60,11 +66,16 @@ mul-vertices c =
     let s = began (c .before .before) in
     omega (arith, vertices-few (s .args .width) (s .args .height) (sound c .narrow) (sound c .low))
 
+-- what it refuses then is refused by row 6
+work-short : (c : tie.Then1) → let s = began (c .before .before .before) in workRow (vertices (asked s)) (lent s) ≡ refused 6 0 0
+unfolding workRow
+work-short c = ap (λ (t : Bool). row t 6 0) (c .if1 .taken)
+
 returns-2 : tie.Need-returns-2
 returns-2 c =
     let s = began (c .before .before .before) in
     let a = s .args in
-    routed-short (asked s) (a .sx) (a .sy) (a .gx) (a .gy) (lent s) (leg-passes (c .before)) (c .if1 .taken)
+    routed-short (asked s) (a .sx) (a .sy) (a .gx) (a .gy) (lent s) (leg-passes (c .before)) (work-short c)
 
 search-route-requires : tie.Need-search-route-requires
 search-route-requires c κs =

@@ -1,8 +1,15 @@
 -- `writeback::write_routes` answers by the rows 22 and 21, and writes the file where they pass.
+use mathlib.Core.Path.{_≡_, sym, _∙_}
+use mathlib.Core.Bool.{true, false}
+use mathlib.Core.List.{List}
+use Prim.Native.Nat.{ℕ}
 use native.Mathlib.Omega.{arith}
 use borrow.Author.Needs.{needs}
+use lib.ListN.{length}
 use Rattle.tracks.specs.Layout.{Slices, slices}
-use Rattle.writeback.proofs.Answering.{write-wrong, right, write-short, write-fitting, write-done}
+use Rattle.tracks.specs.Answers.{isLacking}
+use Rattle.tally.specs.Inner.{Right}
+use Rattle.writeback.proofs.Answering.{write-wrong, right, short-is, write-short, write-fitting, write-done}
 use Rattle.writeback.proofs.write_routes.Statement.{statement}
 use Rattle.writeback.proofs.write_routes.Tie as tie
 
@@ -22,27 +29,34 @@ enum-known-record c = search needs
 enum-known-records : tie.Need-enum-known-records
 enum-known-records c = search needs
 
+-- the slice for the file, and what was measured of the routes
+abbrev measured : tie.After-records → tie.After-measure
+measured z = z .before .before
+
+abbrev lent : tie.After-records → List ℕ
+lent z = start (measured z) .args .file .now
+
+counted : (z : tie.After-records) → Right (given (measured z)) (z .records .given .0 .0) (z .records .given .0 .1 .0)
+counted z = let g = given (measured z) in right g (z .records .given .1) (measured z .measure .ensures (g .xs) (g .ys))
+
+-- 21 lets through only slices that have room, that of the file for all its records, and refuses only such that lack it
+has-room : (e : tie.Else1) → let z = e .before .before in isLacking (given (measured z)) (length (lent z)) ≡ false
+has-room e = let z = e .before .before in sym (short-is (given (measured z)) (counted z) (lent z)) ∙ e .if1 .left
+
+lacks-room : (t : tie.Then1) → let z = t .before .before in isLacking (given (measured z)) (length (lent z)) ≡ true
+lacks-room t = let z = t .before .before in sym (short-is (given (measured z)) (counted z) (lent z)) ∙ t .if1 .taken
+
 returns : tie.Need-returns
-returns c =
-    let sized = c .before .before in
-    let m = sized .before .before in
-    let g = given m in
-    write-short g (right g (sized .records .given .1) (m .measure .ensures (g .xs) (g .ys))) (start m .args .file .now) (c .if1 .taken)
+returns c = let z = c .before .before in write-short (given (measured z)) (counted z) (lent z) (lacks-room c)
 
 mul-short : tie.Need-mul-short
-mul-short c =
-    let sized = c .before in
-    let m = sized .before .before in
-    let g = given m in
-    omega (arith, right g (sized .records .given .1) (m .measure .ensures (g .xs) (g .ys)) .few)
+mul-short c = omega (arith, counted (c .before) .few)
 
 lay-routes-requires : tie.Need-lay-routes-requires
 lay-routes-requires c κs =
     let roomy = c .before in
-    let sized = roomy .before .before in
-    let m = sized .before .before in
-    let g = given m in
-    write-fitting g (right g (sized .records .given .1) (m .measure .ensures (g .xs) (g .ys))) (start m .args .file .now) (roomy .if1 .left)
+    let z = roomy .before .before in
+    write-fitting (given (measured z)) (counted z) (lent z) (has-room roomy)
 
 returns-2 : tie.Need-returns-2
 returns-2 c =
@@ -58,10 +72,8 @@ returns-3 : tie.Need-returns-3
 returns-3 c =
     let lain = c .before .before in
     let roomy = lain .before .before in
-    let sized = roomy .before .before in
-    let m = sized .before .before in
-    let g = given m in
-    write-done g (right g (sized .records .given .1) (m .measure .ensures (g .xs) (g .ys))) (start m .args .file .now) (roomy .if1 .left) (lain .lay-routes .ensures)
+    let z = roomy .before .before in
+    write-done (given (measured z)) (counted z) (lent z) (has-room roomy) (lain .lay-routes .ensures)
 
 pub write-routes-spec : {M : Type 1} → statement M
 write-routes-spec =

@@ -3,6 +3,9 @@ use mathlib.Core.Path.{_≡_, sym, ap, _∙_}
 use native.Mathlib.Omega.{arith}
 use borrow.Author.Needs.{needs}
 use denote.Ref.{now}
+use Rattle.board.specs.Board.{board}
+use Rattle.answer.specs.Answers.{handedRoute}
+use Rattle.netroute.specs.Inner.{Found}
 use Rattle.job.specs.Answers.{handedNet}
 use Rattle.kinds.specs.Job.{Net}
 use Rattle.job.proofs.Above.{NetGiven, net-given}
@@ -42,13 +45,20 @@ returns c = search needs
 slice-aggregate-search-net : tie.Need-slice-aggregate-search-net
 slice-aggregate-search-net c = search needs
 
+-- the net is searched from its start to its goal
+searched : (k : tie.After-search-net) → let n = k .before .before .before in
+    let a = start (n .before .before) .args in
+    Found (board (now (a .cells)) (a .width) (a .height)) (netOf n .sx) (netOf n .sy) (netOf n .gx) (netOf n .gy) (handedRoute (k .search-net .result))
+    (k .search-net .last .1 .1 .1 .1 .1 .1 .1 .0)
+searched k = k .search-net .ensures
+
 -- what was found gives the line of the net
 print-answer-requires : tie.Need-print-answer-requires
 print-answer-requires c κs =
     let k = c .before .before .before in
     let n = k .before .before .before in
     let p = start (n .before .before) .pre in
-    (answered (p .0) (given n) (k .search-net .ensures), p .1 .1)
+    (answered (p .0) (given n) (searched k), p .1 .1)
 
 search-net-requires : tie.Need-search-net-requires
 search-net-requires c κs =

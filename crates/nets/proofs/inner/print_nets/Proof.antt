@@ -9,6 +9,7 @@ use Rattle.nets.proofs.Answering.{nets-sent}
 use Rattle.nets.proofs.inner.print_nets.Statement.{statement}
 use Rattle.nets.proofs.inner.print_nets.Tie as tie
 
+-- the lines begin with that of net 0, and no more are sent than there are nets
 abbrev Inv-loop : tie.InvT-loop
 Inv-loop job cells width height nets buffer₀ sent₀ buffer sent = (sent₀ ≡ 0) × (sent ≤ nets) × (length buffer ≡ length buffer₀)
 

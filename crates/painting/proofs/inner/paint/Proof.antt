@@ -5,7 +5,7 @@ use native.Mathlib.Nat.{mul-le-mul-right}
 use native.Mathlib.Omega.{arith}
 use lib.ListN.{length}
 use Rattle.kinds.specs.Job.{inside}
-use Rattle.painting.specs.Cells.{Painted}
+use Rattle.painting.specs.Cells.{Filled, Painted}
 use Rattle.painting.proofs.Painting.{lines-none, lines-more}
 use Rattle.painting.proofs.inner.paint.Statement.{statement}
 use Rattle.painting.proofs.inner.paint.Tie as tie
@@ -47,7 +47,11 @@ loop-less c = omega arith
 loop-again : tie.Need-loop-again Inv-loop μ-loop
 loop-again c =
     let k = c .before .before .before .before in
-    (omega arith, omega arith, lines-more (k .before .loop .inv .2) (c .before .before .fill .ensures) (omega arith) (omega arith) (omega arith))
+    let a = k .before .before .before .args in
+    let row = k .before .loop .y * a .width in
+    -- in this row the cells from the left to the right are blocked
+    let blocked : Filled (row + a .left) (row + a .right) 1 _ _ = c .before .before .fill .ensures in
+    (omega arith, omega arith, lines-more (k .before .loop .inv .2) blocked (omega arith) (omega arith) (omega arith))
 
 same-length : tie.Need-same-length Inv-loop μ-loop
 same-length c = c .before .loop .inv .2 .long

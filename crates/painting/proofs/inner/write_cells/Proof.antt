@@ -1,6 +1,7 @@
 -- `painting::inner::write_cells` clears the cells and blocks those of the keepouts.
 use native.Mathlib.Omega.{arith}
 use borrow.Author.Needs.{needs}
+use Rattle.painting.specs.Cells.{Filled}
 use Rattle.painting.proofs.Grid.{cells-room, cells-written}
 use Rattle.painting.proofs.inner.write_cells.Statement.{statement}
 use Rattle.painting.proofs.inner.write_cells.Tie as tie
@@ -20,7 +21,9 @@ returns c =
     let painted = c .before .before in
     let cleared = painted .before .before .before .before in
     let p = start cleared .pre in
-    cells-written (p .0) (p .1 .0) (p .1 .1) (p .1 .2) (cleared .fill .ensures) (painted .paint-keepouts .ensures)
+    -- every cell is free before the keepouts are painted
+    let free : Filled 0 (start cleared .args .cells) 0 _ _ = cleared .fill .ensures in
+    cells-written (p .0) (p .1 .0) (p .1 .1) (p .1 .2) free (painted .paint-keepouts .ensures)
 
 pub write-cells-spec : {M : Type 1} → statement M
 write-cells-spec = tie.close (tie.spec (λ c κs. search needs) paint-keepouts-requires (λ c. search needs) returns)

@@ -1,4 +1,5 @@
 -- `path::inner::count_path` counts from the goal back.
+use mathlib.Core.Path.{_≡_}
 use Prim.Native.Nat.{_+_, _-_, _≤_, _<_}
 use native.Mathlib.Omega.{arith}
 use denote.Ref.{now}
@@ -18,7 +19,10 @@ loop-holds : tie.Need-loop-holds Inv-loop μ-loop
 loop-holds c = (reading-start (c .pre), omega (arith, reading-start (c .pre) .fits))
 
 returns : tie.Need-returns Inv-loop μ-loop
-returns c = reading-end (c .before .before .pre) (c .loop-test .left) (c .before .loop .inv .0)
+returns c =
+    -- counting stops only at the start
+    let at-start : c .before .loop .v ≡ c .before .before .args .start = c .loop-test .left in
+    reading-end (c .before .before .pre) at-start (c .before .loop .inv .0)
 
 -- one step back
 step : (k : tie.In-loop Inv-loop μ-loop) → let a = k .before .before .args in

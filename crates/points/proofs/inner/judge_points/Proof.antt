@@ -1,4 +1,6 @@
 -- `points::inner::judge_points` judges by 25, 26 and 27, in this order.
+use Prim.Native.Nat.{_-_, _≤_}
+use native.Mathlib.Omega.{arith}
 use borrow.Author.Needs.{needs}
 use Rattle.points.proofs.Same.{points-left}
 use Rattle.points.proofs.Reading.{path-end, path-off, path-leg, path-fine}
@@ -27,7 +29,11 @@ returns-3 c =
     let off = on .before in
     let right = off .before in
     path-leg _ _ _ _ (right .before .is-end-wrong .ensures) (right .if1 .left) (off .first-off .ensures _) (on .if2 .left)
-    (leg .first-wrong-leg .ensures) (c .if3 .taken)
+    (leg .first-wrong-leg .ensures) (omega (arith, c .if3 .taken))
+
+-- it passes only where none of the n - 1 legs is wrong
+legs-right : (c : tie.Else3) → let off = c .before .before .before in off .before .before .before .before .before .args .n - 1 ≤ c .before .first-wrong-leg .result
+legs-right c = omega (arith, c .if3 .left)
 
 returns-4 : tie.Need-returns-4
 returns-4 c =
@@ -36,7 +42,7 @@ returns-4 c =
     let off = on .before in
     let right = off .before in
     path-fine _ _ _ _ (right .before .is-end-wrong .ensures) (right .if1 .left) (off .first-off .ensures _) (on .if2 .left)
-    (leg .first-wrong-leg .ensures) (c .if3 .left)
+    (leg .first-wrong-leg .ensures) (legs-right c)
 
 pub judge-points-spec : {M : Type 1} → statement M
 judge-points-spec =

@@ -1,6 +1,8 @@
 -- `printing::inner::line_for_c` is the line call for C.
+use mathlib.Core.Path.{_≡_}
 use borrow.Author.Needs.{needs}
 use denote.Ref.{now}
+use Rattle.printing.specs.Inner.{lineFor}
 use Rattle.printing.proofs.Printing.{asked-bytes}
 use Rattle.printing.proofs.Calls.{line-for-c}
 use Rattle.printing.proofs.inner.line_for_c.Statement.{statement}
@@ -15,8 +17,10 @@ returns c =
     let w = written c in
     let l = w .before .before in
     let a = l .before .before .before .args in
-    let asked = asked-bytes (a .net) (a .number) (a .place) (a .second) (a .units) (a .expansions) (a .tests) in
-    line-for-c (asked (l .line-for .ensures) (a .width) (now (a .path))) (w .write-line .ensures) (c .tell-line .ensures)
+    -- the line has what the call is given, each in its place
+    let line-is : l .line-for .result ≡ lineFor (a .net) (a .number) (a .place) (a .second) (a .units) (a .expansions) (a .tests) = l .line-for .ensures in
+    let asked = asked-bytes (a .net) (a .number) (a .place) (a .second) (a .units) (a .expansions) (a .tests) line-is in
+    line-for-c (asked (a .width) (now (a .path))) (w .write-line .ensures) (c .tell-line .ensures)
 
 pub line-for-c-spec : {M : Type 1} → statement M
 line-for-c-spec =

@@ -5,8 +5,11 @@ use native.Mathlib.Omega.{arith}
 use borrow.Author.Needs.{needs}
 use denote.Ref.{now}
 use lib.Seq.{length-take-le}
+use Rattle.lines.specs.declared.Line.the-variants as line-of
+use Rattle.lines.specs.Answers.{bytesOf}
 use Rattle.answer.specs.Answers.{handedRoute}
 use Rattle.answer.specs.declared.Answer.{Answer}
+use Rattle.replies.specs.Output.{lineAt}
 use Rattle.replies.specs.Inner.{Answered}
 use Rattle.replies.proofs.Answering.{answered-as, path-room, none-room, no-refusal, no-other}
 use Rattle.replies.proofs.inner.print_answer.Statement.{statement}
@@ -45,6 +48,13 @@ print-requires c κs =
 enum-known-answer-2 : tie.Need-enum-known-answer-2
 enum-known-answer-2 c = search needs
 
+-- without a path, the job's line has the number of the net and then the answer's expansions and tests, in this order
+none-told : (k : tie.After-answer2) →
+    let a = start-2 k .args in
+    let counts = k .answer2 .given .0 in
+    bytesOf (line-of.None (a .number) (counts .0) (counts .1 .0)) (a .width) (now (a .path)) ≡ lineAt (now (a .job)) (a .index)
+none-told k = answered-as (start-2 k .pre .0) (k .answer2 .given .1) .none-line refl
+
 print-requires-2 : tie.Need-print-requires-2
 print-requires-2 c κs =
     let t = c .before in
@@ -53,7 +63,7 @@ print-requires-2 c κs =
     let f = t .known-told2 .given in
     let A = answered-as (s .pre .0) (k .answer2 .given .1) in (
       A .below,
-      (A .none-line refl, le-trans (none-room A (s .fits .number .fits) (f .0 .1) (f .1 .0 .1)) (s .pre .1)),
+      (none-told k, le-trans (none-room A (s .fits .number .fits) (f .0 .1) (f .1 .0 .1)) (s .pre .1)),
     )
 
 enum-told : tie.Need-enum-told

@@ -1,9 +1,9 @@
 -- `root::inner::root` is the whole square root. The loop's invariant says what the digits so far are.
 use mathlib.Core.Logic.{⊎-elim}
-use Prim.Native.Nat.{_*_, _-_, _/_, _<_}
+use Prim.Native.Nat.{_+_, _*_, _-_, _/_, _≤_, _<_}
 use native.Mathlib.Omega.{arith}
 use lib.Count.{leadingZeros}
-use Rattle.root.proofs.inner.Digits.{word, Digits, skip-short, digits-start, digits-end, root-short, remainder-short, remainder-shift, root-shift, root-double, pair, digit-0, digit-1}
+use Rattle.root.proofs.inner.Digits.{word, quarter, Digits, skip-short, digits-start, digits-end, root-short, remainder-short, remainder-shift, root-shift, root-double, pair, digit-0, digit-1}
 use Rattle.root.proofs.inner.root.Statement.{statement}
 use Rattle.root.proofs.inner.root.Tie as tie
 
@@ -58,9 +58,15 @@ loop-again : tie.Need-loop-again Inv-loop μ-loop
 loop-again c =
     let d = c .before .before .loop .inv in
     let h = c .before .loop-test .taken in
+    let l = c .before .before .loop in
     ⊎-elim
-    (λ w. rw (w .1, w .2, root-double d, remainder-shift d, root-shift d) (digit-1 d h (rw (root-shift d, remainder-shift d) at (w .0 .taken))))
-    (λ w. rw (w .1, w .2, root-double d, remainder-shift d) (digit-0 d h (rw (root-shift d, remainder-shift d) at (w .0 .left)))) (c .if2 .came)
+    -- the trial is 4 × the root and 1, and the remainder gets the rest's two top bits
+    (λ w.
+    let trial-fits : l .root * 4 + 1 ≤ l .remainder * 4 + l .rest / quarter = rw (root-shift d, remainder-shift d) at (w .0 .taken) in
+    rw (w .1, w .2, root-double d, remainder-shift d, root-shift d) (digit-1 d h trial-fits))
+    (λ w.
+    let trial-over : l .remainder * 4 + l .rest / quarter < l .root * 4 + 1 = rw (root-shift d, remainder-shift d) at (w .0 .left) in
+    rw (w .1, w .2, root-double d, remainder-shift d) (digit-0 d h trial-over)) (c .if2 .came)
 
 returns-2 : tie.Need-returns-2 Inv-loop μ-loop
 returns-2 c = digits-end (c .before .loop .inv) (c .loop-test .left)

@@ -46,10 +46,12 @@ line-before-requires-2 c κs = tt
 
 loop-holds : tie.Need-loop-holds Inv-loop2 μ-loop2 Inv-loop μ-loop
 loop-holds c =
-    let s = c .before .before .before .before .before .before .before .before .before .before .before .before .before in (
-      omega (arith, c .line-before2 .ensures),
-      omega (arith, c .line-before2 .ensures, c .before .lines-end2 .ensures, s .pre .0 .placed .on .y-on),
-      rw (c .line-before2 .ensures) (passed-top (s .pre .0) (s .pre .1 .1 .0)),
+    let s = c .before .before .before .before .before .before .before .before .before .before .before .before .before in
+    -- the round begins in the row above the taken vertex
+    let top-is : c .line-before2 .result ≡ s .args .u .y - 1 = c .line-before2 .ensures in (
+      omega (arith, top-is),
+      omega (arith, top-is, c .before .lines-end2 .ensures, s .pre .0 .placed .on .y-on),
+      rw top-is (passed-top (s .pre .0) (s .pre .1 .1 .0)),
       refl,
       refl,
     )

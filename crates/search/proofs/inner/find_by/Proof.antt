@@ -7,6 +7,7 @@ use denote.Ref.{now}
 use lib.ListN.{length}
 use Rattle.board.specs.Limits.{largestSide, mostVertices}
 use Rattle.board.proofs.Numbers.{number-below}
+use Rattle.clearing.specs.Clearing.{Cleared}
 use Rattle.open.specs.Groups.{perRow}
 use Rattle.open.proofs.Grouping.{nodes-fit}
 use Rattle.open.proofs.Listing.{blank-made}
@@ -49,6 +50,11 @@ emptied b = let l = b .begin .last .1 .1 in state (l .0) (l .1 .0) (l .1 .1 .0) 
 abbrev opened : tie.After-open-vertex → State
 opened o = let l = o .open-vertex .last .1 .1 .1 .1 .1 .1 .1 .1 .1 in state (l .0) (emptied (cleared o) .parent) (l .1 .0) (l .1 .1 .0) 0 0
 
+-- they are cleared for a search that begins at the start
+is-cleared : (b : tie.After-begin) → let n = numbered b in
+    Cleared (sizeOf (start n .args .request)) (n .number-of .result) (lent (start n)) (emptied b)
+is-cleared b = b .begin .ensures
+
 open-vertex-requires : tie.Need-open-vertex-requires
 open-vertex-requires c κs =
     let b = c .before .before .before .before .before .before .before .before .before .before .before .before .before in
@@ -56,7 +62,7 @@ open-vertex-requires c κs =
     let s = start n in
     let A = s .pre .0 in
     let N = n .number-of .ensures in
-    let C = b .begin .ensures in
+    let C = is-cleared b in
     let blank = blank-made (2 * (largestSide + 1) * perRow largestSide) (nodes-fit largestSide (A .sound .narrow) (A .sound .low)) in (
       start-sited A,
       (
@@ -72,7 +78,7 @@ begun o =
     let n = numbered b in
     let s = start n in
     let l = o .open-vertex .last .1 .1 .1 .1 .1 .1 .1 .1 .1 in
-    cleared-begun (s .pre .0) (n .number-of .ensures) {before = lent s} {after = emptied b} (b .begin .ensures) {g = l .0} {mark = l .1 .0}
+    cleared-begun (s .pre .0) (n .number-of .ensures) {before = lent s} {after = emptied b} (is-cleared b) {g = l .0} {mark = l .1 .0}
     {legs = l .1 .1 .0} {leads = l .1 .1 .1 .0} {keys = l .1 .1 .1 .1 .0} (o .open-vertex .ensures)
 
 run-requires : tie.Need-run-requires

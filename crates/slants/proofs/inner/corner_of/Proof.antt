@@ -1,9 +1,9 @@
 -- `slants::inner::corner_of` is the definition's corner.
-use mathlib.Core.Path.{ap₂}
+use mathlib.Core.Path.{_≡_}
 use native.Mathlib.Nat.{mod-le, div-le-self}
 use native.Mathlib.Omega.{arith}
 use borrow.Author.Needs.{needs}
-use Rattle.slants.specs.Walk.{cornerOf}
+use Rattle.slants.specs.Walk.{forward, cornerOf}
 use Rattle.slants.proofs.inner.Indices.{forward-fits}
 use Rattle.slants.proofs.inner.corner_of.Statement.{statement}
 use Rattle.slants.proofs.inner.corner_of.Tie as tie
@@ -28,7 +28,11 @@ add-t12 c = let a = c .before .before .args in omega (arith, div-le-self (a .ind
 
 returns : tie.Need-returns
 unfolding cornerOf
-returns c = rw (c .forward2 .ensures, c .before .forward .ensures)
+returns c =
+    let a = c .before .before .args in
+    -- the nearer corner is at the right of its cell only where the leg comes from the right
+    let column : c .before .forward .result ≡ forward (a .bx) (a .ax) 1 = c .before .forward .ensures in
+    rw (c .forward2 .ensures, column)
 
 pub corner-of-spec : {M : Type 1} → statement M
 corner-of-spec =

@@ -53,7 +53,9 @@ returns-2 c =
     let high = c .before in
     let counted = high .before in
     let into = counted .before .before in
-    λ xs ys. long-refused (into .before .loop .inv .5 xs ys) (there into) (rises high) (omega (arith, c .if2 .taken, counted .count-of .ensures))
+    -- a path has more points than there are places
+    let long : 65536 < counted .count-of .result = c .if2 .taken in
+    λ xs ys. long-refused (into .before .loop .inv .5 xs ys) (there into) (rises high) (omega (arith, long, counted .count-of .ensures))
 
 records-for-requires : tie.Need-records-for-requires Inv-loop μ-loop
 records-for-requires c κs = search needs

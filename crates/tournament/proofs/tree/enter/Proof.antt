@@ -1,4 +1,5 @@
 -- `tournament::tree::enter` climbs from the leaf while the vertex is ahead.
+use mathlib.Core.Path.{_≡_}
 use mathlib.Core.Bool.{Bool}
 use Prim.Native.Nat.{_/_, _≤_, _<_}
 use native.Mathlib.Omega.{arith}
@@ -118,7 +119,10 @@ same-length-4 : tie.Need-same-length-4 Inv-loop μ-loop
 same-length-4 c = c .before .loop .inv .1 .same-k
 
 returns-2 : tie.Need-returns-2 Inv-loop μ-loop
-returns-2 c = climbing-end (c .before .loop .inv .1) (omega (arith, c .loop-test .left))
+returns-2 c =
+    -- it has climbed into the root, node 1, too
+    let above-root : c .before .loop .i ≡ 0 = omega (arith, c .loop-test .left) in
+    climbing-end (c .before .loop .inv .1) above-root
 
 pub enter-spec : {M : Type 1} → statement M
 enter-spec =

@@ -1,4 +1,5 @@
 -- `tournament::tree::first` reads node 1.
+use mathlib.Core.Path.{refl}
 use native.Mathlib.Omega.{arith}
 use borrow.Author.Needs.{needs}
 use Rattle.tournament.proofs.tree.first.Statement.{statement}
@@ -14,7 +15,7 @@ shared-slice-read-t7 : tie.Need-shared-slice-read-t7
 shared-slice-read-t7 c = search needs
 
 returns : tie.Need-returns
-returns c = search needs
+returns c = (refl, refl)
 
 pub first-spec : {M : Type 1} → statement M
 first-spec = tie.close (tie.spec shared-slice-read-t4 cast-t5 shared-slice-read-t7 returns)

@@ -155,7 +155,9 @@ same-length-2 c = c .before .loop .inv .2 .same-k ∙ simp length-set
 returns : tie.Need-returns Inv-loop μ-loop
 returns c =
     let s = start (c .before) in
-    renewing-end (c .before .loop .inv .2) (s .args .leader .vertex) (s .args .leader .f) refl refl (omega (arith, c .loop-test .left))
+    -- all nodes up to the root, node 1, are made anew
+    let at-root : c .before .loop .i ≤ 1 = omega (arith, c .loop-test .left) in
+    renewing-end (c .before .loop .inv .2) (s .args .leader .vertex) (s .args .leader .f) refl refl at-root
 
 pub renew-spec : {M : Type 1} → statement M
 renew-spec =

@@ -1,7 +1,10 @@
 -- `walks::inner::first_stop` takes the walk of the leg's direction, and says what it stopped at.
+use mathlib.Core.Path.{_≡_}
+use mathlib.Core.Bool.{false}
 use borrow.Author.Needs.{needs}
 use denote.Ref.{now}
 use Rattle.board.specs.Board.{Board, board}
+use Rattle.edges.specs.Edges.{stopAfter}
 use Rattle.walks.proofs.inner.Walked.{stop-level, stop-upright, stop-slanted}
 use Rattle.walks.proofs.inner.first_stop.Statement.{statement}
 use Rattle.walks.proofs.inner.first_stop.Tie as tie
@@ -22,7 +25,10 @@ returns-2 c =
     let d = c .before .before in
     let s = d .before .before .before in
     let a = s .args in
-    stop-upright (asked s) (a .ax) (a .ay) (a .bx) (a .by) (d .before .if1 .left) (d .if2 .taken) (c .before .first-walled2 .result) (c .stop-after2 .result) (c .before .first-walled2 .ensures .0) (c .stop-after2 .ensures)
+    let steps = c .before .first-walled2 .result in
+    -- the steps of an upright leg are counted from its first end
+    let named : c .stop-after2 .result ≡ stopAfter false (a .ax) (a .ay) (a .by) steps = c .stop-after2 .ensures in
+    stop-upright (asked s) (a .ax) (a .ay) (a .bx) (a .by) (d .before .if1 .left) (d .if2 .taken) steps (c .stop-after2 .result) (c .before .first-walled2 .ensures .0) named
 
 returns-3 : tie.Need-returns-3
 returns-3 c =

@@ -1,7 +1,9 @@
 -- `walks::inner::sees` asks whether the walk of the leg's direction comes to its end.
+use mathlib.Core.Path.{_≡_}
 use borrow.Author.Needs.{needs}
 use denote.Ref.{now}
 use Rattle.board.specs.Board.{Board, board}
+use Rattle.legs.specs.Leg.{far}
 use Rattle.walks.proofs.inner.Walked.{sees-level, sees-upright, sees-slanted}
 use Rattle.walks.proofs.inner.sees.Statement.{statement}
 use Rattle.walks.proofs.inner.sees.Tie as tie
@@ -21,7 +23,9 @@ returns c =
     let k = c .before in
     let s = k .before .before .before in
     let a = s .args in
-    sees-level (asked s) (a .ax) (a .ay) (a .bx) (a .by) (s .pre .1) (k .before .if1 .taken) (k .first-walled .result) (c .distance .result) (k .first-walled .ensures .0) (c .distance .ensures)
+    -- a level leg has as many edges as columns
+    let columns : c .distance .result ≡ far (a .ax) (a .bx) = c .distance .ensures in
+    sees-level (asked s) (a .ax) (a .ay) (a .bx) (a .by) (s .pre .1) (k .before .if1 .taken) (k .first-walled .result) (c .distance .result) (k .first-walled .ensures .0) columns
 
 first-walled-requires-2 : tie.Need-first-walled-requires-2
 first-walled-requires-2 c κs = search needs

@@ -1,9 +1,11 @@
 -- `waypoints::inner::first_off` looks through the points. The loop's invariant: those before are on the board.
 use mathlib.Core.Path.{_≡_}
+use mathlib.Core.Bool.{true}
 use mathlib.Core.List.{[]}
 use Prim.Native.Nat.{ℕ, _+_, _-_, _≤_}
 use native.Mathlib.Omega.{arith}
 use borrow.Author.Needs.{needs}
+use denote.Ref.{now}
 use Rattle.laws.specs.Below.{firstWhere}
 use Rattle.laws.proofs.Below.{none-yet, none-more}
 use Rattle.board.specs.Board.{board}
@@ -47,7 +49,11 @@ returns c =
     let y = on .before in
     let x = y .before in
     let l = x .before .before .loop in
-    λ cells. first-found _ (l .inv .2) (off-told _ _ (x .byte-of .ensures) (y .byte-of2 .ensures) (on .is-vertex .ensures) (c .if1 .taken)) (omega arith)
+    let a = x .before .before .before .before .args in
+    -- the point is off the board
+    let off : isOff (board [] (a .width) (a .height)) (recordPoints (now (a .file)) (a .first) (l .k)) ≡ true =
+    off-told _ _ (x .byte-of .ensures) (y .byte-of2 .ensures) (on .is-vertex .ensures) (c .if1 .taken) in
+    λ cells. first-found _ (l .inv .2) off (omega arith)
 
 add-k : tie.Need-add-k Inv-loop μ-loop
 add-k c = omega arith

@@ -1,6 +1,9 @@
 -- `writing::put::put_refused_twice` puts the pieces of its line in order.
+use mathlib.Core.List.{_++_}
 use Rattle.putting.proofs.Puts.{room-front, room-middle, room-last, put-three}
-use Rattle.lines.proofs.Fields.{refused-twice-parts}
+use Rattle.lines.specs.Lines.{refused, atWord}
+use Rattle.lines.specs.Inner.{Put}
+use Rattle.lines.proofs.Fields.{first, later, refused-twice-parts}
 use borrow.Author.Needs.{needs}
 use Rattle.writing.proofs.put.put_refused_twice.Statement.{statement}
 use Rattle.writing.proofs.put.put_refused_twice.Tie as tie
@@ -12,8 +15,9 @@ returns c =
     let both = number .before .before .before .before .before in
     let start = both .before .before .before .before .before in
     let a = start .args in
-    put-three (refused-twice-parts (a .number) (a .place) (a .second)) (start .pre) (both .put-both .ensures) (number .put-number .ensures)
-    (newline .put-newline .ensures)
+    -- the number and the first place come first
+    let begins : Put (first refused (a .number) ++ later atWord (a .place)) _ 0 _ _ = both .put-both .ensures in
+    put-three (refused-twice-parts (a .number) (a .place) (a .second)) (start .pre) begins (number .put-number .ensures) (newline .put-newline .ensures)
 
 slice-aggregate-put-both : tie.Need-slice-aggregate-put-both
 slice-aggregate-put-both c = search needs
