@@ -1,7 +1,7 @@
 #!/bin/sh
 # larger.sh SIDE [NETS]: rows of run.sh for boards of 127, 255 or 511 cells a side, on 64 nets and with 0, 30 and 40 in 100 blocked. The limits are changed in a copy of the
 # tree (target/larger-SIDE), the library is proved and built there, and the fast router is compiled with the same limit.
-# Of the crates only those below wexxolin are copied: what states the limit itself, route and worked, stays out.
+# Of the library only the route call is built there: what route files and jobs hold has one byte for a coordinate.
 set -eu
 here=$(cd "$(dirname "$0")" && pwd)
 root=$(cd "$here/.." && pwd)
@@ -18,17 +18,8 @@ esac
 copy=$root/target/larger-$side
 mkdir -p "$copy/crates" "$copy/tests"
 
-# the crates that wexxolin is built on, itself among them
-crates=$(awk '
-    { sub(/#.*/, ""); i = index($0, ":"); if (i) below[substr($0, 1, i - 1)] = substr($0, i + 1) }
-    END {
-        list[count = 1] = "wexxolin"
-        for (k = 1; k <= count; k++) {
-            print list[k]
-            n = split(below[list[k]], more, " ")
-            for (m = 1; m <= n; m++) if ((more[m] in below) && !seen[more[m]]++) list[++count] = more[m]
-        }
-    }' "$root/crates.txt")
+# the crates that C's route call is built on, that of its answer among them
+crates=$(sed -n 's/^\(routing\):/\1/p' "$root/crates.txt")
 rm -rf "$copy/crates" "$copy/bench" "$copy/include"
 mkdir "$copy/crates"
 grep -E "^($(echo $crates | tr ' ' '|')):" "$root/crates.txt" > "$copy/crates.txt"
@@ -36,6 +27,22 @@ for crate in $crates; do
     cp -R "$root/crates/$crate" "$copy/crates"
     rm -rf "$copy/crates/$crate/must-fail"
 done
+
+# the library with that call alone: of wexxolin's first part the uses of these crates, and of the others the call's
+echo "wexxolin: $crates" >> "$copy/crates.txt"
+mkdir -p "$copy/crates/wexxolin/src" "$copy/crates/wexxolin/proofs"
+cp -R "$root/crates/wexxolin/proofs/wexxolin_route_2" "$copy/crates/wexxolin/proofs"
+awk -v RS= -v crates=" $crates " '
+    NR == 1 {
+        n = split($0, line, "\n")
+        for (k = 1; k <= n; k++) {
+            crate = line[k]
+            if (!sub(/^ghost use Rattle·/, "", crate) && !sub(/^use /, "", crate)) { print line[k]; continue }
+            sub(/[.:].*/, "", crate)
+            if (index(crates, " " crate " ")) print line[k]
+        }
+    }
+    /fn wexxolin_route_2\(/ { print "\n" $0 }' "$root/crates/wexxolin/src/lib.rt" > "$copy/crates/wexxolin/src/lib.rt"
 cp -R "$root/bench" "$root/include" "$copy"
 cp "$root/tests/boards.c" "$root/tests/boards.h" "$copy/tests"
 
@@ -49,7 +56,6 @@ changed crates/board/src/lib.rt "pub const SIDE: usize = 63;" "pub const SIDE: u
 changed crates/board/src/lib.rt "pub type Vertex = u16;" "pub type Vertex = $vertex;"
 changed crates/board/specs/Limits.antt "largestSide = 63" "largestSide = $side"
 changed crates/board/specs/Limits.antt "vertexBits = 16" "vertexBits = $bits"
-changed crates/lines/src/lib.rt "pub const LONGEST_LINE: usize = 31 + 4 * 20 + 6 * MOST;" "pub const LONGEST_LINE: usize = 31 + 4 * 20 + 8 * MOST;" # three digits
 changed include/wexxolin.h "typedef uint16_t wexxolin_vertex;" "typedef uint${bits}_t wexxolin_vertex;"
 
 cd "$copy"
