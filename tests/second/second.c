@@ -71,12 +71,6 @@ static struct point vertex_point(const struct board *board, size_t vertex)
     return p;
 }
 
-/* "Two vertices are neighbours if they differ and neither coordinate differs by more than 1." */
-static int are_neighbours(struct point a, struct point b)
-{
-    return (a.x != b.x || a.y != b.y) && abs(a.x - b.x) <= 1 && abs(a.y - b.y) <= 1;
-}
-
 /* ---------- sight ---------- */
 
 static int min(int a, int b) { return a < b ? a : b; }
@@ -271,16 +265,6 @@ static struct stop first_stop_and_place(const struct board *board, struct point 
         }
     }
     return found;
-}
-
-/*
- * "Line of sight is to answer clear, or stopped by a cell, or stopped by an edge with its two vertices, nearer first. It
- * names the first such thing counted from the leg's first end." "A vertex has sight of itself."
- */
-static struct stop first_stop(const struct board *board, struct point a, struct point b)
-{
-    int place;
-    return first_stop_and_place(board, a, b, &place);
 }
 
 /*
