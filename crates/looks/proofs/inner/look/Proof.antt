@@ -47,9 +47,13 @@ slice-read-mark c = let s = c .before .before .before .before .before .before .b
 abbrev start : tie.Else1 → tie.Start
 start k = k .before .before .before .before .before .before .before .before .before .before
 
--- the vertex is not the taken one, which is expanded
+-- what is looked at is not expanded
+unexpanded : (k : tie.Else1) → at (now (start k .args .marks)) (start k .args .w .number) ≢ 2
+unexpanded k = k .if1 .left
+
+-- so it is not the taken vertex
 apart : (k : tie.Else1) → start k .args .w .number ≢ start k .args .u .number
-apart k e = k .if1 .left (rw e (start k .pre .0 .ready .done))
+apart k e = unexpanded k (ap (λ (v : ℕ). at (now (start k .args .marks)) v) e ∙ start k .pre .0 .ready .done)
 
 returns : tie.Need-returns
 returns c =
@@ -213,14 +217,17 @@ returns-3 c =
     let P = s .pre .1 .0 in
     let near = answered-yes {t = asking s .near (a .u .number) (a .w .number)} (f .is-visible .ensures) (k .before .if2 .left) in
     let own = len-said (now (a .cells)) (a .request) (from-placed k) (P .placed) (at (now (a .g)) (k .candidate .result .number)) (j .units-between .ensures) in
-    let looked = look-due (asking s) (a .u .number) (a .w .number) (lent s) near (e .if1 .left) (k .candidate .result .number) (candidate-g j) (b .legs-by .result) (from-is k) own
-    (b .legs-by .ensures) in
+    -- the legs are one more than the parent's
+    let legs-are : b .legs-by .result ≡ at (now (a .legs)) (k .candidate .result .number) + 1 = b .legs-by .ensures in
+    let looked = look-due (asking s) (a .u .number) (a .w .number) (lent s) near (e .if1 .left) (k .candidate .result .number) (candidate-g j) (b .legs-by .result) (from-is k) own legs-are in
     elim (c .if3 .came) [
-      | inl w ↦ let S = w .7 .ensures in (
-        rw (w .20, w .21, w .22, w .23, S .g-is, S .parent-is, S .mark-is, settled-legs (now (a .legs)) (a .w .number) {l′ = w .7 .last .1 .1 .1 .1 .1 .1 .1 .1 .0} {n = b .legs-by .result} (S .legs-is) (b .legs-by .ensures))
-            (looked true (better-is x true (w .0 .taken))),
-        rw (w .20, w .22, w .23, w .24, w .25) (S .listed),
-      )
+      | inl w ↦ let S = w .7 .ensures in
+          -- they are what is written beside the parent
+          let written : w .7 .last .1 .1 .1 .1 .1 .1 .1 .1 .0 ≡ set (now (a .legs)) (a .w .number) (b .legs-by .result) = S .legs-is in (
+            rw (w .20, w .21, w .22, w .23, S .g-is, S .parent-is, S .mark-is, settled-legs (now (a .legs)) (a .w .number) {l′ = w .7 .last .1 .1 .1 .1 .1 .1 .1 .1 .0} {n = b .legs-by .result} written legs-are)
+                (looked true (better-is x true (w .0 .taken))),
+            rw (w .20, w .22, w .23, w .24, w .25) (S .listed),
+          )
       | inr w ↦ (
         rw (w .1, w .2, w .3, w .4) (looked false (better-is x false (w .0 .left))),
         rw (w .1, w .3, w .4, w .5, w .6) (s .pre .1 .1 .1 .0),

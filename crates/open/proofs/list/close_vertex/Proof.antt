@@ -2,7 +2,10 @@
 use Prim.Native.Nat.{_+_, _*_, _<_}
 use native.Mathlib.Omega.{arith}
 use borrow.Author.Needs.{needs}
+use denote.Ref.{now}
+use lib.ListN.{set}
 use Rattle.board.proofs.Numbers.{number-below}
+use Rattle.open.specs.Marked.{Looked}
 use Rattle.open.proofs.Grouping.{leaf-room}
 use Rattle.open.proofs.Looking.{numbers-most}
 use Rattle.open.proofs.Listing.{small-closed, listed-closed}
@@ -13,12 +16,17 @@ use Rattle.open.proofs.list.close_vertex.Tie as tie
 abbrev start : tie.After-look → tie.Start
 start k = k .before .before .before .before .before .before .before .before
 
+-- the group is looked through with the vertex marked as expanded
+looked : (k : tie.After-look) → let a = start k .args in
+    Looked (a .width) (a .height) (a .x) (a .y) (a .gx) (a .gy) (now (a .g)) (set (now (a .marks)) (a .v) 2) (now (a .legs)) (k .look .result .vertex) (k .look .result .f)
+looked k = k .look .ensures
+
 returns : tie.Need-returns
 returns c =
     let r = c .before .before .before .before in
     let l = r .before .before .before in
     let s = start (l .before) in
-    listed-closed (s .pre .0) (s .pre .1 .0) (s .pre .1 .1 .0) (l .before .look .ensures) (rw (l .leaf .ensures) at (r .renew .ensures))
+    listed-closed (s .pre .0) (s .pre .1 .0) (s .pre .1 .1 .0) (looked (l .before)) (rw (l .leaf .ensures) at (r .renew .ensures))
 
 -- it is one of the vertices
 on : (s : tie.Start) → s .args .v < (s .args .width + 1) * (s .args .height + 1)

@@ -1,9 +1,12 @@
 -- `open::list::open_vertex` writes the vertex's entries, and the vertex climbs from its leaf.
+use mathlib.Core.Path.{_≡_, refl}
 use Prim.Native.Nat.{_+_, _*_, _<_}
 use native.Mathlib.Omega.{arith}
 use borrow.Author.Needs.{needs}
 use Rattle.board.specs.Limits.{mostVertices}
 use Rattle.board.proofs.Numbers.{number-below}
+use Rattle.spans.specs.Legs.{step}
+use Rattle.length.specs.Units.{units}
 use Rattle.table.proofs.Table.{known-leg}
 use Rattle.open.proofs.Grouping.{leaf-room}
 use Rattle.open.proofs.Looking.{units-small, vertices-most, numbers-most}
@@ -24,12 +27,18 @@ start k = k .before .before .before .before .before .before .before
 abbrev late : tie.After-enter → tie.Start
 late e = start (e .before .before .before .before .before .before)
 
+-- h is the length of the leg to the goal
+h-is : (k : tie.After-units-between) → let a = start k .args in k .units-between .result ≡ units (step (a .x) (a .gx)) (step (a .y) (a .gy))
+h-is k = k .units-between .ensures
+
 returns : tie.Need-returns
 returns c =
     let e = c .before .before .before .before in
     let l = e .before .before .before .before .before in
     let s = late e in
-    listed-opened (s .pre .0) (s .pre .1 .0) (s .pre .1 .1 .0) (l .before .units-between .ensures) (rw (l .leaf .ensures) at (e .enter .ensures))
+    let O =
+    listed-opened (s .pre .0) (s .pre .1 .0) (s .pre .1 .1 .0) (h-is (l .before)) (rw (l .leaf .ensures) at (e .enter .ensures)) in
+    record { g-is = refl; legs-is = refl; mark-is = refl; listed = O .listed }
 
 add-f : tie.Need-add-f
 add-f c =
