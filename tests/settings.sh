@@ -5,7 +5,7 @@
 #   CC       the compiler          FLAGS  its flags          LINK  flags behind the objects
 #   RUN      the command that runs a program built for x86-64 (nothing on x86-64 itself)
 #   OUT      folder for what is built (target/outside)
-#   SCALE    how many random cases outside.sh tries (1; under an emulator, which is many times slower, 1/8; where every small board is tried, it bounds their size)
+#   SCALE    how many random cases outside.sh tries (1; under an emulator, which is many times slower, 1/16; where every small board is tried, it bounds their size)
 root=$(cd "$(dirname "$0")/.." && pwd)
 OUT=${OUT:-$root/target/outside}
 LIBRARY=${LIBRARY:-$root/target/staticlib/libwexxolin.a}
@@ -21,7 +21,7 @@ else
     [ -x "$kit" ] || kit=qemu-x86_64
     CC=${CC:-x86_64-linux-gnu-gcc} LINK=${LINK--static} RUN=${RUN-$kit}
 fi
-SCALE=${SCALE:-$([ -z "$RUN" ] && echo 1 || echo 1/8)}
+SCALE=${SCALE:-$([ -z "$RUN" ] && echo 1 || echo 1/16)}
 mkdir -p "$OUT"
 
 # build NAME SOURCE...: a program of this folder's sources and the library
