@@ -266,14 +266,11 @@ uint64_t fast_units(int dx, int dy) { return units_of(dx * dx + dy * dy); }
 /* ---------- the open list ---------- */
 
 /* A key has f in its highest bits, then how near the goal is, then the place: equal f, then least g, which is the greatest
-   distance from the goal. Where both are equal, legs are looked at, and then the vertex number. An f is below 1482911 * PLACES. */
-#if LARGEST_SIDE <= 127
+   distance from the goal. Where both are equal, legs are looked at, and then the vertex number. An f is below 1482911 * PLACES.
+   From sides of 128 on a word has no room for the distance: g is looked at where f is equal. */
 typedef uint64_t key;
-#else
-typedef unsigned __int128 key;
-#endif
 
-enum { NEAR_BITS = PLACE_BITS + 1, F_AT = NEAR_BITS + PLACE_BITS };
+enum { NEAR_BITS = LARGEST_SIDE <= 127 ? PLACE_BITS + 1 : 0, F_AT = NEAR_BITS + PLACE_BITS };
 
 #if LARGEST_SIDE <= 255
 typedef uint16_t short_place;
@@ -293,17 +290,20 @@ struct search {
 
 INLINE key key_of(uint64_t f, int square, unsigned place)
 {
-    return (key)f << F_AT | (key)((1u << NEAR_BITS) - 1 - (unsigned)square) << PLACE_BITS | place;
+    key near = NEAR_BITS ? (1u << NEAR_BITS) - 1 - (unsigned)square : 0;
+    return f << F_AT | near << PLACE_BITS | place;
 }
 
 INLINE unsigned place_of(key key) { return (unsigned)key & (PLACES - 1); }
 
-/* Is a taken before b: by the words themselves, and where only the places differ by the legs and then the places. */
+/* Is a taken before b: by the words themselves, and where only the places differ by g if it is not in them, the legs and then the places. */
 INLINE int before(const struct search *s, key a, key b)
 {
     if ((a ^ b) >> PLACE_BITS)
         return a < b;
     unsigned p = place_of(a), q = place_of(b);
+    if (!NEAR_BITS && s->g[p] != s->g[q])
+        return s->g[p] < s->g[q];
     return s->legs[p] != s->legs[q] ? s->legs[p] < s->legs[q] : p < q;
 }
 
