@@ -86,7 +86,7 @@ wanted="$*"
 broken tie-larger-g fast.c 's/\(1u << NEAR_BITS\) - 1 - \(unsigned\)square/(unsigned)square/'
 broken tie-larger-vertex fast.c 's/: p < q;/: p > q;/'
 broken tie-none fast.c 's/\(a \^ b\) >> PLACE_BITS\)\n        return a < b;/(a ^ b) >> F_AT)\n        return a < b;\n    return 0;/'
-broken tie-only-vertex fast.c 's/\(key\)\(\(1u << NEAR_BITS\) - 1 - \(unsigned\)square\) << PLACE_BITS \| //; s/int square, unsigned place\)\n\{/int square, unsigned place)\n{\n    (void)square;/'
+broken tie-only-vertex fast.c 's/return f << F_AT \| near << PLACE_BITS \| place;/(void)near;\n    return f << F_AT | place;/'
 broken old-key-stays fast.c 's/i = s->where\[n\];\n/s->g[n] = new_g, s->parent[n] = (short_place)from, s->legs[n] = (short_place)legs;\n        return;\n/'
 broken key-of-old-g fast.c 's/s->keys\[i\] - \(\(key\)\(s->g\[n\] - new_g\) << F_AT\)/s->keys[i]/'
 broken heap-one-child fast.c 's/down \+= before\(s, s->keys\[down \+ 1\], s->keys\[down\]\);/down += down + 2 <= count \&\& before(s, s->keys[down + 1], s->keys[down]);/'
