@@ -3,7 +3,7 @@ use mathlib.Core.Path.{_≡_, sym, _∙_}
 use mathlib.Core.List.{List}
 use Prim.Native.Nat.{ℕ, _≤_, _<_}
 use native.Mathlib.Omega.{arith}
-use lib.ListN.{length, length-set}
+use lib.ListN.{length, set, length-set}
 use Rattle.board.specs.Board.{numberOf, columnOf, rowOf}
 use Rattle.board.specs.Inner.{OnBoard}
 use Rattle.board.proofs.Numbers.{number-back, column-on, row-on}
@@ -13,8 +13,8 @@ use Rattle.offers.specs.declared.Request.{Request}
 use Rattle.offers.specs.declared.Spot.{Spot}
 use Rattle.offers.specs.Request.{boardOf, sizeOf, Asked, Placed}
 use Rattle.offers.specs.Offers.{Taken}
-use Rattle.theta.specs.Search.{State}
-use Rattle.theta.specs.Lent.{marked}
+use Rattle.theta.specs.Search.{Problem, State}
+use Rattle.theta.specs.Lent.{state, marked, Rounded}
 use Rattle.problem.specs.Problem.{problem}
 use Rattle.taking.specs.Taking.{Taking}
 
@@ -63,3 +63,8 @@ module _ {cells : List ℕ} {q : Request} (A : Asked cells q) {v : ℕ} {s : Sta
     parent-is = rw (U .2) (sym (E .2));
     ready = rw (U .2) (T .ready);
   }
+
+-- the round of a spot with the number v, from slices whose marks are said, is the round of v
+pub taking-rounded : (p : Problem) (n : ℕ) (before after : State) {u v : ℕ} {mark : List ℕ} → mark ≡ set (before .mark) v 2 → u ≡ v
+    → Rounded p u n (state (before .g) (before .parent) mark (before .legs) (before .expansions) (before .tests)) after → Rounded p v n (marked v before) after
+taking-rounded p n before after e f R = rw (← e, ← f) R

@@ -30,16 +30,19 @@ returns c =
     let row-is = whole-stopped _ (stop .before .check-job .result) (stop .match .keys2) (stop .before .check-job .ensures) in
     job-refused _ _ _ (c .why .result) (row-is ∙ ap refusalRow (sym (c .why .ensures)))
 
+-- the start, from where the job has been judged
+abbrev begun : tie.After-check-job → tie.Start
+begun k = k .before .before .before .before .before .before .before .before .before .before
+
 -- the job is accepted with what its last record leaves known
-step : (n : tie.After-checked) → let k = n .before .before in answer (n .checked .given .0 .0) ≡ jobStep (now (k .before .before .before .before .before .before .before .before .before .before .args .job))
+step : (n : tie.After-checked) → answer (n .checked .given .0 .0) ≡ jobStep (now (begun (n .before .before) .args .job))
 step n = sym (ap handedStep (n .checked .given .1)) ∙ n .before .before .check-job .ensures
 
 check-routes-requires : tie.Need-check-routes-requires
 check-routes-requires c κs = search needs
 
 -- what is judged after the job is the route file
-routes : (k : tie.After-check-routes)
-    → Checked (now (k .before .before .before .before .before .before .before .before .before .before .before .before .before .before .args .file)) (k .check-routes .result)
+routes : (k : tie.After-check-routes) → Checked (now (begun (k .before .before .before .before) .args .file)) (k .check-routes .result)
 routes k = k .check-routes .ensures
 
 enum-known-why : tie.Need-enum-known-why

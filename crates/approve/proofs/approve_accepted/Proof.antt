@@ -10,9 +10,12 @@ use Rattle.approve.proofs.Approving.{lengths, Enough, narrow, low, stop
 use Rattle.approve.proofs.approve_accepted.Statement.{statement}
 use Rattle.approve.proofs.approve_accepted.Tie as tie
 
--- where the call began, and what the slices held there
+-- where the call began, from where the slices are to be judged and from where they are, and what they held there
+abbrev begun : tie.After-slice-known7 → tie.Start
+begun c = c .before .before .before .before .before .before .before .before .before
+
 abbrev began : tie.After-too-short → tie.Start
-began k = k .before .before .before .before .before .before .before .before .before .before
+began k = begun (k .before)
 
 abbrev lent : tie.Start → Slices
 lent s =
@@ -20,7 +23,7 @@ lent s =
     slices (now (a .board)) (now (a .g)) (now (a .parents)) (now (a .marks)) (now (a .legs)) (now (a .units)) (now (a .counts))
 
 too-short-requires : tie.Need-too-short-requires
-too-short-requires c κs = let p = c .before .before .before .before .before .before .before .before .before .pre in (narrow p, low p)
+too-short-requires c κs = let p = begun c .pre in (narrow p, low p)
 
 -- each slice is judged by its own length
 room : (k : tie.After-too-short) → let s = began k in let p = s .args .whole in
@@ -56,9 +59,13 @@ slice-aggregate-check-nets c =
     let held = r .before .before in
     sym (full (start held .pre) (long held) (r .write-board .ensures))
 
+-- the board is written, from where the nets are to be checked
+abbrev written : tie.After-check-nets-arg7 → tie.After-write-board
+written c = c .before .before .before .before .before .before .before .before .before
+
 check-nets-requires : tie.Need-check-nets-requires
 check-nets-requires c κs =
-    let r = c .before .before .before .before .before .before .before .before .before in
+    let r = written c in
     let held = r .before .before in
     let s = start held in (
       on-job (s .pre) (long held) (r .write-board .ensures),
@@ -72,10 +79,14 @@ check-nets-requires c κs =
 abbrev left-by : tie.After-check-nets → Searching
 left-by n = let l = n .check-nets .last .1 .1 .1 .1 .1 .1 in searching (l .0) (l .1 .0) (l .1 .1 .0) (l .1 .1 .1 .0)
 
+-- the nets are checked
+abbrev checked : tie.After-slice-known14 → tie.After-check-nets
+checked c = c .before .before .before .before .before .before .before .before .before .before .before .before
+
 returns-2 : tie.Need-returns-2
 returns-2 c =
-    let n = c .before .before .before .before .before .before .before .before .before .before .before .before in
-    let r = n .before .before .before .before .before .before .before .before .before .before in
+    let n = checked c in
+    let r = written (n .before) in
     let held = r .before .before in
     let s = start held in
     decided (s .pre) (long held) (r .write-board .ensures) {w = left-by n} (n .check-nets .ensures)

@@ -111,9 +111,13 @@ same-length-5 c = search needs
 abbrev left : tie.After-search-route → Slices
 left q = let l = q .search-route .last .1 .1 .1 .1 .1 .1 .1 in slices (l .0) (l .1 .0) (l .1 .1 .0) (l .1 .1 .1 .0) (l .1 .1 .1 .1 .0)
 
+-- the search has run
+abbrev searched : tie.After-slice-known10 → tie.After-search-route
+searched c = c .before .before .before .before .before .before .before .before .before .before
+
 returns-3 : tie.Need-returns-3
 returns-3 c =
-    let q = c .before .before .before .before .before .before .before .before .before .before in
+    let q = searched c in
     let e = q .before .before .before .before .before .before in
     let s = began (e .before .before .before) in
     let a = s .args in

@@ -37,6 +37,13 @@ loop-again c =
     let same = r .read-some .kept .0 in
     (omega (arith, r .read-some .ensures, same), same ∙ l .loop .inv .1, omega arith)
 
+-- where some bytes were read, from where nothing came, and from where it is known whether the read was put off
+abbrev read : tie.Else2 Inv-loop μ-loop → tie.After-read-some Inv-loop μ-loop
+read k = k .before .before .before .before .before .before
+
+abbrev put-off : tie.After-is-put-off Inv-loop μ-loop → tie.After-read-some Inv-loop μ-loop
+put-off k = read (k .before .before .before)
+
 errno-requires : tie.Need-errno-requires Inv-loop μ-loop
 errno-requires c κs = search needs
 
@@ -54,7 +61,7 @@ same-length c = search needs
 
 returns : tie.Need-returns Inv-loop μ-loop
 returns c =
-    let r = c .before .before .before .before .before .before .before .before .before .before .before .before in
+    let r = put-off (c .before .before .before) in
     omega (arith, r .read-some .ensures, r .read-some .kept .0)
 
 add-tries : tie.Need-add-tries Inv-loop μ-loop
@@ -67,7 +74,7 @@ loop-less-2 : tie.Need-loop-less-2 Inv-loop μ-loop
 loop-less-2 c =
     let p = c .before .is-put-off in
     let fewer = p .ensures (not-false (p .result) (c .if4 .left)) in
-    let r = c .before .before .before .before .before .before .before .before .before .before in
+    let r = put-off (c .before) in
     let l = r .before .before .before in
     omega (arith, fewer, r .read-some .ensures, l .loop .inv .1)
 
@@ -75,7 +82,7 @@ loop-again-2 : tie.Need-loop-again-2 Inv-loop μ-loop
 loop-again-2 c =
     let p = c .before .is-put-off in
     let fewer = p .ensures (not-false (p .result) (c .if4 .left)) in
-    let r = c .before .before .before .before .before .before .before .before .before .before in
+    let r = put-off (c .before) in
     let l = r .before .before .before in
     let same = r .read-some .kept .0 in
     (omega (arith, r .read-some .ensures, same), same ∙ l .loop .inv .1, omega (arith, fewer))
@@ -99,7 +106,7 @@ same-length-4 c = search needs
 
 returns-4 : tie.Need-returns-4 Inv-loop μ-loop
 returns-4 c =
-    let r = c .before .before .before .before .before .before .before .before in
+    let r = read (c .before .before) in
     omega (arith, r .read-some .ensures, r .read-some .kept .0)
 
 pub read-job-spec : {M : Type 1} → statement M

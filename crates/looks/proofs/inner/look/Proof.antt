@@ -40,12 +40,16 @@ few s = vertices-most (s .args .request .width) (s .args .request .height) (s .p
 on : (s : tie.Start) → s .args .w .number < sizeOf (s .args .request)
 on s = placed-below (s .pre .1 .0 .placed)
 
+-- the start, from where the mark is read and from where it is known
+abbrev begun : tie.After-slice-known7 → tie.Start
+begun c = c .before .before .before .before .before .before .before .before .before
+
 slice-read-mark : tie.Need-slice-read-mark
 unfolding problem
-slice-read-mark c = let s = c .before .before .before .before .before .before .before .before .before in omega (arith, on s, s .pre .0 .ready .room-m)
+slice-read-mark c = let s = begun c in omega (arith, on s, s .pre .0 .ready .room-m)
 
 abbrev start : tie.Else1 → tie.Start
-start k = k .before .before .before .before .before .before .before .before .before .before
+start k = begun (k .before)
 
 -- what is looked at is not expanded
 unexpanded : (k : tie.Else1) → at (now (start k .args .marks)) (start k .args .w .number) ≢ 2
@@ -57,7 +61,7 @@ apart k e = unexpanded k (ap (λ (v : ℕ). at (now (start k .args .marks)) v) e
 
 returns : tie.Need-returns
 returns c =
-    let s = c .before .before .before .before .before .before .before .before .before .before in
+    let s = begun (c .before) in
     let a = s .args in
     (look-done (asking s) (a .u .number) (a .w .number) (lent s) (c .if1 .taken), s .pre .1 .1 .1 .0)
 

@@ -21,15 +21,19 @@ on s =
     let D = s .pre .0 .sited in
     omega (arith, s .pre .0 .lower .is, number-below (q .width) (q .height) (w .x) (w .y) (D .column) (D .row))
 
+-- the start, from where the vertex is to be opened
+abbrev begun : tie.After-open-vertex-arg5 → tie.Start
+begun c = c .before .before .before .before .before .before .before .before .before .before .before .before
+
 open-vertex-requires : tie.Need-open-vertex-requires
-open-vertex-requires c κs = let s = c .before .before .before .before .before .before .before .before .before .before .before .before in (s .pre .0 .sited, (s .pre .0 .lower, (s .pre .1 .0, s .pre .1 .1)))
+open-vertex-requires c κs = let s = begun c in (s .pre .0 .sited, (s .pre .0 .lower, (s .pre .1 .0, s .pre .1 .1)))
 
 -- the places on the way: the vertex is open, the start
 abbrev opened : tie.After-slice-known11 → tie.After-open-vertex
 opened c = c .before .before .before .before .before .before .before .before .before .before
 
 abbrev start : tie.After-open-vertex → tie.Start
-start o = o .before .before .before .before .before .before .before .before .before .before .before .before .before
+start o = begun (o .before)
 
 cast-parents : tie.Need-cast-parents
 cast-parents c = let s = start (opened c) in omega (arith, s .pre .0 .on-parent, on s, few s, vertices-fit)

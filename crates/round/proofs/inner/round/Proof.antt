@@ -29,24 +29,28 @@ Inv-loop cells request u parent tests g₀ parents₀ marks₀ legs₀ leads₀ 
 abbrev μ-loop : tie.MeasureT-loop
 μ-loop cells request u parent tests g₀ parents₀ marks₀ legs₀ leads₀ keys₀ table wide left right bottom t₀ y₀ g parents marks legs leads keys t y = bottom - y
 
+-- the start, from where the sides are known
+abbrev begun : tie.After-struct-known Inv-loop2 μ-loop2 Inv-loop μ-loop → tie.Start Inv-loop2 μ-loop2 Inv-loop μ-loop
+begun c = c .before .before .before .before .before .before .before .before .before
+
 add-wide : tie.Need-add-wide Inv-loop2 μ-loop2 Inv-loop μ-loop
-add-wide c = let A = c .before .before .before .before .before .before .before .before .before .pre .0 .asked-for .sound in omega (arith, A .narrow)
+add-wide c = let A = begun c .pre .0 .asked-for .sound in omega (arith, A .narrow)
 
 line-before-requires : tie.Need-line-before-requires Inv-loop2 μ-loop2 Inv-loop μ-loop
 line-before-requires c κs = tt
 
 lines-end-requires : tie.Need-lines-end-requires Inv-loop2 μ-loop2 Inv-loop μ-loop
-lines-end-requires c κs = let T = c .before .before .before .before .before .before .before .before .before .before .pre .0 in omega (arith, T .placed .on .x-on, T .asked-for .sound .narrow)
+lines-end-requires c κs = let T = begun (c .before) .pre .0 in omega (arith, T .placed .on .x-on, T .asked-for .sound .narrow)
 
 lines-end-requires-2 : tie.Need-lines-end-requires-2 Inv-loop2 μ-loop2 Inv-loop μ-loop
-lines-end-requires-2 c κs = let T = c .before .before .before .before .before .before .before .before .before .before .before .pre .0 in omega (arith, T .placed .on .y-on, T .asked-for .sound .low)
+lines-end-requires-2 c κs = let T = begun (c .before .before) .pre .0 in omega (arith, T .placed .on .y-on, T .asked-for .sound .low)
 
 line-before-requires-2 : tie.Need-line-before-requires-2 Inv-loop2 μ-loop2 Inv-loop μ-loop
 line-before-requires-2 c κs = tt
 
 loop-holds : tie.Need-loop-holds Inv-loop2 μ-loop2 Inv-loop μ-loop
 loop-holds c =
-    let s = c .before .before .before .before .before .before .before .before .before .before .before .before .before in
+    let s = begun (c .before .before .before .before) in
     -- the round begins in the row above the taken vertex
     let top-is : c .line-before2 .result ≡ s .args .u .y - 1 = c .line-before2 .ensures in (
       omega (arith, top-is),
@@ -57,7 +61,7 @@ loop-holds c =
     )
 
 abbrev start : tie.At-loop Inv-loop2 μ-loop2 Inv-loop μ-loop → tie.Start Inv-loop2 μ-loop2 Inv-loop μ-loop
-start l = l .before .before .before .before .before .before .before .before .before .before .before .before .before .before
+start l = begun (l .before .before .before .before .before)
 
 few : (s : tie.Start Inv-loop2 μ-loop2 Inv-loop μ-loop) → sizeOf (s .args .request) ≤ mostVertices
 few s = vertices-most (s .args .request .width) (s .args .request .height) (s .pre .0 .asked-for .sound .narrow) (s .pre .0 .asked-for .sound .low)

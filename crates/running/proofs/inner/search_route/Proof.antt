@@ -39,13 +39,17 @@ left k =
 work : (c : tie.After-find) → Work (wanted (began c)) (theta.search (wanted (began c)) .state)
 work c = let s = began c in board-work (asked s) (s .args .sx) (s .args .sy) (s .args .gx) (s .args .gy) (s .pre .start)
 
+-- it has run, from where its outcome is known, and from where that is a path
+abbrev told : tie.After-struct-known → tie.After-find
+told c = c .before .before .before .before .before .before .before .before .before
+
 returns : tie.Need-returns
 returns c =
-    let k = c .before .before .before .before .before .before .before .before .before .before in
+    let k = told (c .before) in
     ran-none (work k) {before = lent (began k)} {after = left k} (k .find .ensures) (now (began k .args .path)) (not-true _ (c .if1 .taken))
 
 abbrev ran : tie.Else1 → tie.After-find
-ran c = c .before .before .before .before .before .before .before .before .before .before
+ran c = told (c .before)
 
 -- a path has been found
 found : (e : tie.Else1) → let k = ran e in Searched (wanted (began k)) (lent (began k)) (left k) true

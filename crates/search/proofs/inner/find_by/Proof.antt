@@ -22,9 +22,12 @@ use Rattle.search.proofs.inner.find_by.Tie as tie
 few : (s : tie.Start) → sizeOf (s .args .request) ≤ mostVertices
 few s = vertices-most (s .args .request .width) (s .args .request .height) (s .pre .0 .sound .narrow) (s .pre .0 .sound .low)
 
--- the places on the way: the start is open, the slices have been cleared, the start has its number
+-- the places on the way: the slices have been cleared, from where the start is to be opened and from where it is open; the start has its number
+abbrev emptying : tie.After-keys → tie.After-begin
+emptying c = c .before .before .before .before .before .before .before .before .before .before .before .before .before
+
 abbrev cleared : tie.After-open-vertex → tie.After-begin
-cleared o = o .before .before .before .before .before .before .before .before .before .before .before .before .before .before
+cleared o = emptying (o .before)
 
 abbrev numbered : tie.After-begin → tie.After-number-of
 numbered b = b .before .before .before .before .before .before .before
@@ -57,7 +60,7 @@ is-cleared b = b .begin .ensures
 
 open-vertex-requires : tie.Need-open-vertex-requires
 open-vertex-requires c κs =
-    let b = c .before .before .before .before .before .before .before .before .before .before .before .before .before in
+    let b = emptying c in
     let n = numbered b in
     let s = start n in
     let A = s .pre .0 in
@@ -81,9 +84,13 @@ begun o =
     cleared-begun (s .pre .0) (n .number-of .ensures) {before = lent s} {after = emptied b} (is-cleared b) {g = l .0} {mark = l .1 .0}
     {legs = l .1 .1 .0} {leads = l .1 .1 .1 .0} {keys = l .1 .1 .1 .1 .0} (o .open-vertex .ensures)
 
+-- the start is open, from where the turns are to begin
+abbrev ready : tie.After-keys3 → tie.After-open-vertex
+ready c = c .before .before .before .before .before .before .before .before .before .before .before .before .before .before
+
 run-requires : tie.Need-run-requires
 run-requires c κs =
-    let o = c .before .before .before .before .before .before .before .before .before .before .before .before .before .before in
+    let o = ready c in
     let n = numbered (cleared o) in
     let s = start n in
     let B = begun-begins (s .pre .0) (n .number-of .ensures) {before = lent s} {after = opened o} (begun o) in
@@ -94,7 +101,7 @@ abbrev over : tie.After-keys4 → tie.After-run
 over c = c .before .before .before .before .before .before .before .before .before .before
 
 abbrev begun-with : tie.After-run → tie.After-open-vertex
-begun-with r = r .before .before .before .before .before .before .before .before .before .before .before .before .before .before .before
+begun-with r = ready (r .before)
 
 -- each call keeps the slices' lengths
 same-length : tie.Need-same-length

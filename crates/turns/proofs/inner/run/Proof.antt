@@ -28,21 +28,28 @@ abbrev μ-turns : tie.MeasureT-turns
 few : (s : tie.Start Inv-turns μ-turns) → sizeOf (s .args .request) ≤ mostVertices
 few s = vertices-most (s .args .request .width) (s .args .request .height) (s .pre .0 .sound .narrow) (s .pre .0 .sound .low)
 
+-- the start, from where the goal's number is to be known and from where it is
+abbrev asked-for : tie.After-shared-slice-known2 Inv-turns μ-turns → tie.Start Inv-turns μ-turns
+asked-for c = c .before .before .before .before .before .before .before .before
+
+abbrev numbered : tie.After-number-of Inv-turns μ-turns → tie.Start Inv-turns μ-turns
+numbered c = asked-for (c .before)
+
 number-of-requires : tie.Need-number-of-requires Inv-turns μ-turns
-number-of-requires c κs = let A = c .before .before .before .before .before .before .before .before .pre .0 in omega (arith, A .sound .narrow, A .goal, A .sound .low)
+number-of-requires c κs = let A = asked-for c .pre .0 in omega (arith, A .sound .narrow, A .goal, A .sound .low)
 
 cast-goal : tie.Need-cast-goal Inv-turns μ-turns
 cast-goal c =
-    let s = c .before .before .before .before .before .before .before .before .before in
+    let s = numbered c in
     let q = s .args .request in
     let A = s .pre .0 in
     omega (arith, c .number-of .ensures, number-below (q .width) (q .height) (q .gx) (q .gy) (A .goal .x-on) (A .goal .y-on), few s)
 
 turns-holds : tie.Need-turns-holds Inv-turns μ-turns
-turns-holds c = let s = c .before .before .before .before .before .before .before .before .before in (finding-start (s .pre .0) (s .pre .1 .0) (s .pre .1 .1 .0), refl, refl, refl, refl, refl, refl)
+turns-holds c = let s = numbered c in (finding-start (s .pre .0) (s .pre .1 .0) (s .pre .1 .1 .0), refl, refl, refl, refl, refl, refl)
 
 abbrev start : tie.At-turns Inv-turns μ-turns → tie.Start Inv-turns μ-turns
-start l = l .before .before .before .before .before .before .before .before .before .before
+start l = numbered (l .before)
 
 first-requires : tie.Need-first-requires Inv-turns μ-turns
 first-requires c κs =
