@@ -16,7 +16,7 @@ use Rattle.taking.proofs.inner.expand.Tie as tie
 few : (s : tie.Start) → sizeOf (s .args .request) ≤ mostVertices
 few s = vertices-most (s .args .request .width) (s .args .request .height) (s .pre .0 .sound .narrow) (s .pre .0 .sound .low)
 
--- the start, and from where its place is known
+-- the start, from where its place is to be known and from where it is
 abbrev begun : tie.After-shared-slice-known2 → tie.Start
 begun c = c .before .before .before .before .before .before .before .before
 
@@ -61,7 +61,7 @@ round-requires c κs =
 abbrev rounded : tie.After-slice-known16 → tie.After-round
 rounded c = c .before .before .before .before .before .before .before .before .before .before .before .before
 
--- what is asked, and what the slices hold: as lent, the marks without the open vertex, and what its round leaves
+-- what is asked, and what the slices hold: as lent, the marks with the vertex expanded, and what its round leaves
 abbrev asking : tie.Start → Problem
 asking s = asked (now (s .args .cells)) (s .args .request)
 
