@@ -1,5 +1,5 @@
 -- What the walk along a leg's edges hands to its caller. No public contract cites it, so nobody need believe this.
-use Prim.Native.Nat.{ℕ, _+_, _-_}
+use Prim.Native.Nat.{ℕ, _+_, _*_, _-_}
 use mathlib.Core.Bool.{Bool, true, false, cond}
 use lib.Dec.{ltb, eqb}
 use Rattle.board.specs.Board.{Board, blocked}
@@ -12,6 +12,11 @@ use Rattle.legs.specs.Stops.{edgeFrom}
 unfoldable pub cellOn : Board → (level : Bool) → (line k : ℕ) → Bool
 cellOn b true line k = blocked b k line
 cellOn b false line k = blocked b line k
+
+-- its index in the cells of a board of that width
+unfoldable pub indexOn : (level : Bool) → (width line k : ℕ) → ℕ
+indexOn true width line k = line * width + k
+indexOn false width line k = k * width + line
 
 -- the vertex at k on the row c, or on the column c
 unfoldable pub vertexFrom : (level : Bool) → (c k : ℕ) → Stop

@@ -2,13 +2,13 @@
 ghost use mathlib.Core.Path.{_≡_};
 ghost use mathlib.Core.Bool.{cond};
 ghost use Prim.Native.Nat.{_+_, _≤_, _<_};
+ghost use Rattle.board.specs.Limits.{mostVertices};
 ghost use Rattle.board.specs.Board.{board};
 ghost use Rattle.board.specs.Inner.{Sound};
 ghost use Rattle.legs.specs.Leg.{far};
 ghost use Rattle.legs.specs.Pinched.{crosswise};
 ghost use Rattle.legs.specs.Stops.{edgeFrom, edgesStop};
-ghost use Rattle.edges.specs.Edges.{cellOn, vertexFrom, stopAfter};
-use board::inner::is_cell_blocked;
+ghost use Rattle.edges.specs.Edges.{indexOn, vertexFrom, stopAfter};
 use board::inner::line_before;
 use legs::Stop;
 use walls::leg;
@@ -56,24 +56,30 @@ pub fn stop_after(level: bool, c: usize, p: usize, q: usize, steps: usize) -> St
     vertex(level, c, leg::vertex(p, q, steps - n))
 }
 
-// Whether the cell at k of a line of cells along the leg is blocked.
-fn is_shut(cells: &[u8], width: usize, height: usize, level: bool, line: usize, k: usize) -> bool
-    requires { ⌜ Sound (board (now cells) width height) ⌝ }
-    requires { ⌜ (line < cond level height width) × (k < cond level width height) ⌝ }
-    ensures { λ r. ⌜ r ≡ cellOn (board (now (cells .entry)) width height) level line k ⌝ }
-{
-    if level {
-        is_cell_blocked(cells, width, height, k, line)
-    } else {
-        is_cell_blocked(cells, width, height, line, k)
-    }
-}
-
 // How many lines of cells lie across a level leg, or across an upright one.
 fn lines_across(level: bool, width: usize, height: usize) -> usize
     ensures { λ r. ⌜ r ≡ cond level height width ⌝ }
 {
     if level { height } else { width }
+}
+
+// How far apart in `cells` neighbours lie along a level leg, or along an upright one.
+fn stride(level: bool, width: usize) -> usize
+    ensures { λ r. ⌜ r ≡ cond level 1 width ⌝ }
+{
+    if level { 1 } else { width }
+}
+
+// The index of the cell at k of a line of cells along the leg.
+fn index_on(level: bool, width: usize, line: usize, k: usize) -> usize
+    requires { ⌜ indexOn level width line k < mostVertices ⌝ }
+    ensures { λ r. ⌜ r ≡ indexOn level width line k ⌝ }
+{
+    if level {
+        line * width + k
+    } else {
+        k * width + line
+    }
 }
 
 // Whether of four cells round a vertex two diagonally opposite ones are blocked and the other two free.
@@ -85,7 +91,8 @@ fn is_crosswise(nw: bool, ne: bool, sw: bool, se: bool) -> bool
 
 // The first unit edge with blocked cells on both sides, by the steps before it, or pinched vertex strictly inside the leg, by its
 // steps and those of the whole leg; those of the whole leg if there is neither. Step by step from p to q: at each the vertex, by
-// the two cells passed last (none at the first end, where they count as free) and the next two, then the edge between these.
+// the two cells passed last (none at the first end, where they count as free) and the next two, then the edge between these. The
+// next two are held by their indices, which a step moves by the stride, so that no step multiplies.
 pub fn first_walled(
     cells: &[u8],
     width: usize,
@@ -104,25 +111,36 @@ pub fn first_walled(
     let n = leg::distance(p, q);
     let low = line_before(c);
     let high = line_behind(c, lines_across(level, width, height));
+    // A leg of no steps has no edge and no cells beside it.
+    if n == 0 {
+        return n;
+    }
+    let first = leg::cell(p, q, 0);
+    let mut low_cell = index_on(level, width, low, first);
+    let mut high_cell = index_on(level, width, high, first);
+    let along = stride(level, width);
+    let ahead = leg::forward(p, q, along);
+    let back = leg::forward(q, p, along);
     let mut passed_low = false;
     let mut passed_high = false;
     let mut u: usize = 0;
     let found = 'edges: loop {
-        if u == n {
-            break 'edges n;
-        }
-        let k = leg::cell(p, q, u);
-        let at_low = is_shut(cells, width, height, level, low, k);
-        let at_high = is_shut(cells, width, height, level, high, k);
+        let at_low = cells[low_cell] == 1;
+        let at_high = cells[high_cell] == 1;
         if is_crosswise(passed_low, at_low, passed_high, at_high) {
             break 'edges n + u;
         }
         if at_low & at_high {
             break 'edges u;
         }
+        u += 1;
+        if u == n {
+            break 'edges n;
+        }
         passed_low = at_low;
         passed_high = at_high;
-        u += 1;
+        low_cell = low_cell + ahead - back;
+        high_cell = high_cell + ahead - back;
     };
     found
 }

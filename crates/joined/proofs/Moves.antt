@@ -3,15 +3,16 @@
 use Prim.Native.Nat.{ℕ, _+_, _-_, _≤_, _<_, min}
 use mathlib.Core.Path.{_≡_, refl, _∙_}
 use mathlib.Core.Logic.{⊎-elim}
-use mathlib.Core.Bool.{Bool, true, false, not, _&&_, _||_}
+use mathlib.Core.Bool.{Bool, true, false, _&&_, _||_}
 use native.Mathlib.Nat.{eq-or-lt-of-le}
 use native.Mathlib.Omega.{arith}
-use borrow.Author.Tests.{ltb-true, ne-eqb, not-false}
-use lib.Dec.{ltb, eqb}
-use Rattle.laws.proofs.Tests.{order, and-left, and-right, and-false, or-neither}
-use Rattle.board.specs.Board.{Board, blocked, isCell, number, column, row}
+use borrow.Author.Tests.{ne-eqb}
+use lib.Dec.{eqb}
+use Rattle.laws.proofs.Tests.{order, and-false}
+use Rattle.board.specs.Board.{Board, blocked, number, column, row}
 use Rattle.board.specs.Inner.{OnBoard}
 use Rattle.board.proofs.Numbers.{number-below, column-number, row-number}
+use Rattle.board.proofs.Cells.{free-cell}
 use Rattle.legs.specs.Pinched.{admitted}
 use Rattle.legs.specs.Sight.{rowWall, columnWall, sees}
 use Rattle.legs.specs.Leg.{far}
@@ -71,17 +72,9 @@ open-edge line j y free h k =
     (λ (l : j < y). let z : y - 1 ≡ j = omega arith in rw (ne-eqb y 0 (λ e. omega arith), z, free)) (eq-or-lt-of-le h)
 
 module _ (b : Board) {i j : ℕ} (free : blocked b i j ≡ false) where
-  -- it is on the board, and so are its corners
-  free-cell : (i < b .width) × (j < b .height)
-  unfolding blocked
-  free-cell =
-      let p : Bool = ltb i (b .width) in
-      let q : Bool = ltb j (b .height) in
-      let c : isCell b i j ≡ true = not-false (isCell b i j) (or-neither (not (isCell b i j)) _ free .0) in
-      (ltb-true i (b .width) (and-left p q c), ltb-true j (b .height) (and-right p q c))
-
+  -- its corners are on the board
   corner-board : {x y : ℕ} → CornerOf i j x y → OnBoard b x y
-  corner-board c = let f = free-cell in record { x-on = omega (arith, c .right); y-on = omega (arith, c .bottom) }
+  corner-board c = let f = free-cell b free in record { x-on = omega (arith, c .right); y-on = omega (arith, c .bottom) }
 
   module _ {x y x′ y′ : ℕ} (c : CornerOf i j x y) (c′ : CornerOf i j x′ y′) (differ : x ≡ x′ → y ≡ y′ → ⊥) where
     on : EndsOn b x y x′ y′

@@ -12,7 +12,7 @@ use Rattle.laws.proofs.Tests.{order, bool-cases, and-left, and-right, a
 
 -- ---- one test
 
-number-le : (b : Bool) → asNumber b ≤ 1
+pub number-le : (b : Bool) → asNumber b ≤ 1
 number-le true = omega arith
 number-le false = omega arith
 

@@ -1,6 +1,6 @@
 -- Sight between neighbours in closed form: a diagonal step needs its one cell free, a step along an axis one of two. Assumes nothing.
 use Prim.Native.Nat.{ℕ, _+_, _≤_, _<_, min}
-use mathlib.Core.Path.{_≡_, refl, sym, ap, _∙_}
+use mathlib.Core.Path.{_≡_, refl, ap, _∙_}
 use mathlib.Core.Logic.{⊎-elim}
 use mathlib.Core.Bool.{Bool, true, false, not, _&&_}
 use native.Mathlib.Omega.{arith}
@@ -49,10 +49,6 @@ module _ (b : Board) (ax ay bx by : ℕ) (on : EndsOn b ax ay bx by) where
       sees-clear b ax ay bx by on ∙ ap isClear (slanted-stop b ax ay bx by (λ h. omega arith) (λ h. omega arith))
       ∙ rw (e, f, start-clear b ax ay bx by, x, step-cell ax bx e, step-cell ay by f)
       (cond-clear (blocked b (min ax bx) (min ay by)) _ refl)
-
-  -- and so from the answer for the one cell of a diagonal step
-  pub diagonal-read : {r : Bool} {x y : ℕ} → r ≡ blocked b x y → x ≡ min ax bx → y ≡ min ay by → far ax bx ≡ 1 → far ay by ≡ 1 → not r ≡ sees b ax ay bx by
-  diagonal-read g h k e f = rw (g, h, k) (sym (diagonal-step e f))
 
 -- neighbours differ by at most 1 each way, and by 1 in some way
 module _ (ax ay bx by : ℕ) (h : neighbours ax ay bx by ≡ true) where

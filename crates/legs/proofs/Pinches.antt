@@ -12,16 +12,23 @@ use Rattle.legs.specs.Pinched.{onInside, crosswise, pinched}
 use Rattle.legs.specs.Leg.{far, vertexAt, cellAt}
 use Rattle.legs.proofs.Axis.{vertex-up, vertex-down, cell-up, cell-down}
 
--- a pinched vertex is on the inside of the board
-pub pinched-inside : (b : Board) (x y : ℕ) → pinched b x y ≡ true → (x < b .width) × (y < b .height)
-unfolding pinched
-pinched-inside b x y h =
+-- where a vertex on the inside of the board stands
+pub inside-at : (b : Board) (x y : ℕ) → onInside b x y ≡ true → (0 < x) × (x < b .width) × (0 < y) × (y < b .height)
+inside-at b x y h =
     let p : Bool = ltb 0 x && ltb x (b .width) in
     let q : Bool = ltb 0 y && ltb y (b .height) in
-    let r : onInside b x y ≡ true = and-left (p && q) _ h in (
-      ltb-true x (b .width) (and-right (ltb 0 x) (ltb x (b .width)) (and-left p q r)),
-      ltb-true y (b .height) (and-right (ltb 0 y) (ltb y (b .height)) (and-right p q r)),
+    let l = and-left p q h in
+    let r = and-right p q h in (
+      ltb-true 0 x (and-left (ltb 0 x) (ltb x (b .width)) l),
+      ltb-true x (b .width) (and-right (ltb 0 x) (ltb x (b .width)) l),
+      ltb-true 0 y (and-left (ltb 0 y) (ltb y (b .height)) r),
+      ltb-true y (b .height) (and-right (ltb 0 y) (ltb y (b .height)) r),
     )
+
+-- a pinched vertex does
+pub pinched-inside : (b : Board) (x y : ℕ) → pinched b x y ≡ true → (x < b .width) × (y < b .height)
+unfolding pinched
+pinched-inside b x y h = let i = inside-at b x y (and-left (onInside b x y) _ h) in (i .1, i .3)
 
 -- ---- the four cells, taken in another order
 

@@ -1,7 +1,7 @@
 -- Vertices by place and by number: what the problem of a board says of them, and which vertices are beside one. Assumes nothing.
 use mathlib.Core.Path.{_≡_, refl, sym, ap, _∙_}
-use mathlib.Core.Logic.{_⊎_, inl, inr, _≢_}
-use mathlib.Core.Bool.{Bool, true, false, not, _&&_, _||_, cond, and-true}
+use mathlib.Core.Logic.{_≢_}
+use mathlib.Core.Bool.{Bool, true, false, not, _&&_, _||_, and-true}
 use mathlib.Core.List.{List}
 use Prim.Native.Nat.{ℕ, _+_, _-_, _*_, _≤_, _<_}
 use native.Mathlib.Nat.{suc-mul, mul-le-mul-right}
@@ -9,25 +9,23 @@ use native.Mathlib.Omega.{arith}
 use native.Mathlib.Decide.{ℕ-discrete}
 use lib.Dec.{eqb, leb}
 use borrow.Author.Tests.{ne-eqb, lt-ltb, le-leb}
-use Rattle.laws.proofs.Tests.{and-both, and-false, false-of}
+use Rattle.laws.proofs.Tests.{and-both, and-false}
 use Rattle.board.specs.Board.{Board, vertices, numberOf, columnOf, rowOf, column, row}
-use Rattle.board.proofs.Numbers.{number-below, column-number, row-number, number-back, column-on}
+use Rattle.board.proofs.Numbers.{number-below, column-number, row-number}
 use Rattle.spans.specs.Legs.{step}
 use Rattle.length.specs.Units.{units}
-use Rattle.legs.specs.Leg.{far}
 use Rattle.legs.specs.Sight.{sees}
 use Rattle.legs.specs.Pinched.{pinched, admitted}
 use Rattle.legs.specs.Neighbours.{neighbours, visible}
-use Rattle.legs.proofs.Neighbours.{neighbours-near}
-use Rattle.legs.proofs.Visible.{visible-neighbours}
+use Rattle.legs.proofs.Visible.{visible-neighbours, visible-sees, visible-below}
 use Rattle.reach.specs.Turns.{at}
 use Rattle.offers.specs.declared.Request.{Request}
 use Rattle.offers.specs.declared.Spot.{Spot}
 use Rattle.theta.specs.Search.{State}
 use Rattle.problem.specs.Problem.{problem}
 use Rattle.problem.proofs.Admitted.{reached-admitted}
-use Rattle.offers.specs.Request.{boardOf, asked, admits, sizeOf, Asked, Placed}
-use Rattle.offers.specs.Offers.{Taken, Beside}
+use Rattle.offers.specs.Request.{boardOf, asked, admits, sizeOf, Placed}
+use Rattle.offers.specs.Offers.{Taken, Offered, Beside}
 
 -- a row ends within the rows
 pub rows-le : (wide rows y : ℕ) → y < rows → y * wide + wide ≤ rows * wide
@@ -59,18 +57,18 @@ module _ (cells : List ℕ) (q : Request) where
     unfolding problem
     len-placed = rw (placed-column P, placed-row P, placed-column Q, placed-row Q) refl
 
-    -- with a length that is said to be that one
-    pub len-said : (x : ℕ) {r : ℕ} → r ≡ units (step (s .x) (t .x)) (step (s .y) (t .y)) → x + r ≡ x + (asked cells q) .len (s .number) (t .number)
-    len-said x e = ap (λ (y : ℕ). x + y) (e ∙ sym len-placed)
+  -- the leg from the parent or from u itself, as the sight test tells, is what w is offered
+  module _ {from u w : Spot} (F : Placed (boardOf cells q) from) (U : Placed (boardOf cells q) u) (W : Placed (boardOf cells q) w)
+      {seen : Bool} (told : seen ≡ sees (boardOf cells q) (from .x) (from .y) (w .x) (w .y)) {parent length : ℕ} where
+    pub offered-parent : seen ≡ true → parent ≡ from .number → length ≡ units (step (from .x) (w .x)) (step (from .y) (w .y))
+        → Offered (asked cells q) (u .number) (from .number) (w .number) parent length
+    offered-parent e f g =
+        record { parent-is = rw (sees-placed F W, ← told, e) f; units-are = rw f (g ∙ sym (len-placed F W)) }
 
-    -- a candidate parent by place is the candidate by number
-    pub candidate-number : (u v : Spot) → u ≡ cond (sees (boardOf cells q) (s .x) (s .y) (t .x) (t .y)) s v
-        → u .number ≡ cond ((asked cells q) .sees (s .number) (t .number)) (s .number) (v .number)
-    candidate-number u v e = rw sees-placed (ap (λ (x : Spot). x .number) e ∙ number-cond (sees (boardOf cells q) (s .x) (s .y) (t .x) (t .y)))
-      where
-        number-cond : (x : Bool) → (cond x s v) .number ≡ cond x (s .number) (v .number)
-        number-cond true = refl
-        number-cond false = refl
+    pub offered-own : seen ≡ false → parent ≡ u .number → length ≡ units (step (u .x) (w .x)) (step (u .y) (w .y))
+        → Offered (asked cells q) (u .number) (from .number) (w .number) parent length
+    offered-own e f g =
+        record { parent-is = rw (sees-placed F W, ← told, e) f; units-are = rw f (g ∙ sym (len-placed U W)) }
 
   -- a spot that is not pinched is admitted; one that is pinched, if it is the start or the goal
   module _ {s : Spot} (P : Placed (boardOf cells q) s) {r : Bool} (e : r ≡ pinched (boardOf cells q) (s .x) (s .y)) where
@@ -84,15 +82,10 @@ module _ (cells : List ℕ) (q : Request) where
     unfolding admitted
     pinched-admitted z a b = rw (placed-column P, placed-row P, ← e, z, a, b) refl
 
--- either of two placed spots is placed
-pub placed-cond : {b : Board} (x : Bool) {s t : Spot} → Placed b s → Placed b t → Placed b (cond x s t)
-placed-cond true P Q = P
-placed-cond false P Q = Q
-
 -- ---- beside a vertex
 
 module _ {cells : List ℕ} {q : Request} {u w : Spot} (P : Placed (boardOf cells q) u) (B : Beside cells q u w) (d : w .number ≢ u .number) where
-  pub beside-neighbours : neighbours (u .x) (u .y) (w .x) (w .y) ≡ true
+  beside-neighbours : neighbours (u .x) (u .y) (w .x) (w .y) ≡ true
   unfolding neighbours
   beside-neighbours = and-both (differ (ℕ-discrete (u .x) (w .x)) (ℕ-discrete (u .y) (w .y))) (and-both (and-both left right) (and-both above below))
     where
@@ -113,10 +106,8 @@ module _ {cells : List ℕ} {q : Request} {u w : Spot} (P : Placed (boardOf cell
       differ (no e) f = rw (ne-eqb (u .x) (w .x) e) refl
       differ (yes e) (no f) = rw (ne-eqb (u .y) (w .y) f, and-false (eqb (u .x) (w .x)) refl) refl
 
-  -- it is near if it is admitted and has sight, where u is admitted
-  beside-near : admits cells q (u .number) ≡ true
-      → (asked cells q) .near (u .number) (w .number)
-      ≡ (admits cells q (w .number) && sees (boardOf cells q) (u .x) (u .y) (w .x) (w .y))
+  -- it is near if it is admitted, where u is admitted
+  pub beside-near : admits cells q (u .number) ≡ true → admits cells q (w .number) ≡ (asked cells q) .near (u .number) (w .number)
   unfolding problem visible
   beside-near a =
       rw (
@@ -128,53 +119,23 @@ module _ {cells : List ℕ} {q : Request} {u w : Spot} (P : Placed (boardOf cell
         lt-ltb (w .number) (sizeOf q) (placed-below (B .placed)),
         beside-neighbours,
         a,
-      ) refl
+        B .seen,
+      ) (sym (and-true (admits cells q (w .number))))
 
-  module _ (a : admits cells q (u .number) ≡ true) {r : Bool} (e : r ≡ sees (boardOf cells q) (u .x) (u .y) (w .x) (w .y)) where
-    -- without sight it is not near
-    pub unseen-far : r ≡ false → false ≡ (asked cells q) .near (u .number) (w .number)
-    unseen-far z = sym (beside-near a ∙ and-false (admits cells q (w .number)) (sym e ∙ z))
+-- ---- near it
 
-    -- with sight it is near if it is admitted
-    pub sight-near : r ≡ true → {s : Bool} → s ≡ admits cells q (w .number) → s ≡ (asked cells q) .near (u .number) (w .number)
-    sight-near z f = f ∙ sym (beside-near a ∙ rw (← e, z) (and-true (admits cells q (w .number))))
-
--- ---- not beside it
-
-module _ (cells : List ℕ) (q : Request) {u : Spot} (P : Placed (boardOf cells q) u) where
-  near-close : (v : ℕ) → (asked cells q) .near (u .number) v ≡ true
-      → (far (u .x) (columnOf (q .width) v) ≤ 1) × (far (u .y) (rowOf (q .width) v) ≤ 1)
+module _ (cells : List ℕ) (q : Request) {u : Spot} (P : Placed (boardOf cells q) u) (v : ℕ) (h : (asked cells q) .near (u .number) v ≡ true) where
+  pub near-neighbours : neighbours (u .x) (u .y) (columnOf (q .width) v) (rowOf (q .width) v) ≡ true
   unfolding problem
-  near-close v h =
-      let n = visible-neighbours (boardOf cells q) _ _ (u .number) v h in
-      let m : neighbours (u .x) (u .y) (columnOf (q .width) v) (rowOf (q .width) v) ≡ true = rw (placed-column P, placed-row P) at n in
-      neighbours-near (u .x) (u .y) (columnOf (q .width) v) (rowOf (q .width) v) m
+  near-neighbours = rw (placed-column P, placed-row P) at (visible-neighbours (boardOf cells q) _ _ (u .number) v h)
 
-  -- rows above the one before u's
-  pub far-above : (v : ℕ) → v < (u .y - 1) * (q .width + 1) → (asked cells q) .near (u .number) v ≡ false
-  far-above v l = false-of _ (λ h. let y = rowOf (q .width) v in
-      let c : u .y - 1 ≤ y = omega (arith, near-close v h .1) in
-      omega (arith, number-back (q .width) v, mul-le-mul-right (q .width + 1) c))
+  pub near-seen : sees (boardOf cells q) (u .x) (u .y) (columnOf (q .width) v) (rowOf (q .width) v) ≡ true
+  unfolding problem
+  near-seen = rw (placed-column P, placed-row P) at (visible-sees (boardOf cells q) _ _ (u .number) v h)
 
-  -- rows below the one behind u's
-  pub far-below : (v : ℕ) → (u .y + 2) * (q .width + 1) ≤ v → (asked cells q) .near (u .number) v ≡ false
-  far-below v l = false-of _ (λ h. let y = rowOf (q .width) v in
-      let c : y + 1 ≤ u .y + 2 = omega (arith, near-close v h .1) in
-      omega (arith, number-back (q .width) v, column-on (q .width) v, mul-le-mul-right (q .width + 1) c))
-
-  -- columns of the row y that are not next to u's
-  pub far-beside : (y v : ℕ) → y * (q .width + 1) ≤ v → v < y * (q .width + 1) + (q .width + 1)
-      → (v + 1 < y * (q .width + 1) + u .x) ⊎ (y * (q .width + 1) + u .x + 1 < v) → (asked cells q) .near (u .number) v ≡ false
-  far-beside y v l h o = false-of _ (λ n. go o (near-close v n .0))
-    where
-      column-is : columnOf (q .width) v ≡ v - y * (q .width + 1)
-      column-is =
-          let e : v ≡ numberOf (q .width) (v - y * (q .width + 1)) y = omega arith in
-          ap (columnOf (q .width)) e ∙ column-number (q .width) (v - y * (q .width + 1)) y (omega arith)
-
-      go : (v + 1 < y * (q .width + 1) + u .x) ⊎ (y * (q .width + 1) + u .x + 1 < v) → far (u .x) (columnOf (q .width) v) ≤ 1 → ⊥
-      go (inl a) f = omega (arith, column-is)
-      go (inr a) f = omega (arith, column-is)
+  pub near-below : v < sizeOf q
+  unfolding problem
+  near-below = visible-below (boardOf cells q) _ _ (u .number) v h
 
 -- ---- the vertices that have been seen are admitted, and the taken one among them
 

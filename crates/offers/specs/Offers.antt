@@ -1,15 +1,16 @@
 -- The round of a taken vertex's neighbours, on a board: what the contracts of the code say.
 use mathlib.Core.Path.{_≡_}
 use mathlib.Core.Logic.{_≢_}
-use mathlib.Core.Bool.{true}
+use mathlib.Core.Bool.{true, cond}
 use mathlib.Core.List.{List}
 use Prim.Native.Nat.{ℕ, _+_, _≤_, _<_}
 use lib.ListN.{length, set}
+use Rattle.legs.specs.Sight.{sees}
 use Rattle.open.specs.Marked.{Sited, Lower, Listed}
 use Rattle.reach.specs.Turns.{at}
 use Rattle.offers.specs.declared.Request.{Request}
 use Rattle.offers.specs.declared.Spot.{Spot}
-use Rattle.theta.specs.Search.{State}
+use Rattle.theta.specs.Search.{Problem, State}
 use Rattle.theta.specs.Lent.{Ready}
 use Rattle.problem.specs.Sizes.{largest}
 use Rattle.offers.specs.Request.{boardOf, asked, admits, sizeOf, Asked, Placed}
@@ -22,13 +23,19 @@ pub record Taken (cells : List ℕ) (q : Request) (u from : Spot) (s : State) : 
   pub parent-is : at (s .parent) (u .number) ≡ from .number
   pub ready : Ready (asked cells q) (largest (q .width) (q .height)) (u .number) s
 
--- w is a vertex of the board, and neither coordinate differs by more than 1 from u's
+-- w is a vertex of the board that u sees, and neither coordinate differs by more than 1 from u's
 pub record Beside (cells : List ℕ) (q : Request) (u w : Spot) : Type 0 where
   pub placed : Placed (boardOf cells q) w
   pub left : u .x ≤ w .x + 1
   pub right : w .x ≤ u .x + 1
   pub above : u .y ≤ w .y + 1
   pub below : w .y ≤ u .y + 1
+  pub seen : sees (boardOf cells q) (u .x) (u .y) (w .x) (w .y) ≡ true
+
+-- w, a neighbour of u, is offered the leg from a parent: from u's own if that sees w, else from u
+pub record Offered (p : Problem) (u from w parent units : ℕ) : Type 0 where
+  pub parent-is : parent ≡ cond (p .sees from w) from u
+  pub units-are : units ≡ p .len parent w
 
 -- it is not u, which is admitted; and so is w, if its mark says that it has been seen
 pub record Judging (cells : List ℕ) (q : Request) (u w : Spot) (mark : ℕ) : Type 0 where

@@ -17,3 +17,9 @@ pub struct Spot {
     pub y: usize,
     pub number: usize,
 }
+
+// What a neighbour is offered: a parent, by its number, and the length of the leg from there.
+pub struct Offer {
+    pub parent: usize,
+    pub units: u64,
+}

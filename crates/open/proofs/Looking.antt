@@ -3,7 +3,7 @@ use mathlib.Core.Path.{_≡_, refl, sym, ap, _∙_}
 use mathlib.Core.Logic.{_≢_}
 use mathlib.Core.Bool.{Bool, true, false, cond}
 use mathlib.Core.List.{List}
-use Prim.Native.Nat.{ℕ, _+_, _*_, _^_, _≤_, _<_}
+use Prim.Native.Nat.{ℕ, _+_, _-_, _*_, _^_, _≤_, _<_}
 use native.Mathlib.Omega.{arith}
 use lib.IntN.{natAbs}
 use borrow.Author.Tests.{eqb-true, eq-eqb, ne-eqb}
@@ -65,51 +65,54 @@ module _ {width height x y gx gy : ℕ} (D : Sited width height x y gx gy) where
   pub group-filled : groupStart x < groupEnd width x
   group-filled = omega (arith, D .column)
 
-  pub column-below : (c : ℕ) → c < groupEnd width x → (c ≤ width) × (y * (width + 1) + c < (width + 1) * (height + 1))
-  column-below c l = (omega arith, omega (arith, strip-on width height x y (D .column) (D .row)))
+  pub strip-below : (v : ℕ) → v < y * (width + 1) + groupEnd width x → (v - y * (width + 1) ≤ width) × (v < (width + 1) * (height + 1))
+  strip-below v l = (omega arith, omega (arith, strip-on width height x y (D .column) (D .row)))
 
 -- ---- the look
 
--- r leads the columns of the group up to c, with the key k
-pub record Looking (width height x y gx gy : ℕ) (g m l : List ℕ) (c r k : ℕ) : Type 0 where
+-- r leads the vertices of the group below v, with the key k
+pub record Looking (width height x y gx gy : ℕ) (g m l : List ℕ) (v r k : ℕ) : Type 0 where
   pub on : r < (width + 1) * (height + 1)
-  pub leads : Leads (boardContest width height gx gy g m l) (Between (y * (width + 1) + groupStart x) (y * (width + 1) + c)) r k
+  pub leads : Leads (boardContest width height gx gy g m l) (Between (y * (width + 1) + groupStart x) v) r k
 
 module _ {width height x y gx gy : ℕ} (D : Sited width height x y gx gy) {g m l : List ℕ} (S : Small ((width + 1) * (height + 1)) g m l) where
-  pub looking-start : Looking width height x y gx gy g m l (groupStart x) (y * (width + 1) + groupStart x) noKey
+  pub looking-start : Looking width height x y gx gy g m l (y * (width + 1) + groupStart x) (y * (width + 1) + groupStart x) noKey
   looking-start = record {
-    on = column-below D (groupStart x) (group-filled D) .1;
+    on = strip-below D (y * (width + 1) + groupStart x) (omega (arith, group-filled D)) .1;
     leads = scan-none (boardContest width height gx gy g m l) (y * (width + 1) + groupStart x) (y * (width + 1) + groupStart x);
   }
 
-  module _ {c r k : ℕ} (L : Looking width height x y gx gy g m l c r k) (past : groupStart x ≤ c) (inside : c < groupEnd width x) where
-    further : y * (width + 1) + (c + 1) ≡ y * (width + 1) + c + 1
-    further = omega arith
-
-    pub looking-closed : at m (y * (width + 1) + c) ≢ 1 → Looking width height x y gx gy g m l (c + 1) r k
-    looking-closed d = record {
-      on = L .on;
-      leads = rw further (scan-closed (ne-eqb (at m (y * (width + 1) + c)) 1 d) (L .leads));
-    }
+  module _ {v r k : ℕ} (L : Looking width height x y gx gy g m l v r k) where
+    pub looking-closed : at m v ≢ 1 → Looking width height x y gx gy g m l (v + 1) r k
+    looking-closed d = record { on = L .on; leads = scan-closed (ne-eqb (at m v) 1 d) (L .leads) }
 
     -- it is open, u is its leg to the goal, and b says whether it is ahead of the leader so far
-    pub looking-open : (u : ℕ) → at m (y * (width + 1) + c) ≡ 1 → u ≡ units (step c gx) (step y gy) → {answer : Bool}
-        → answer ≡ sooner (ranked (at g (y * (width + 1) + c) + u) (at g (y * (width + 1) + c)) (at l (y * (width + 1) + c)) (y * (width + 1) + c)) (seen g l r k)
+    pub looking-open : y * (width + 1) + groupStart x ≤ v → v < y * (width + 1) + groupEnd width x
+        → (u : ℕ) → at m v ≡ 1 → u ≡ units (step (v - y * (width + 1)) gx) (step y gy) → {answer : Bool}
+        → answer ≡ sooner (ranked (at g v + u) (at g v) (at l v) v) (seen g l r k)
         → (b : Bool) → answer ≡ b
-        → Looking width height x y gx gy g m l (c + 1) (cond b (y * (width + 1) + c) r) (cond b (at g (y * (width + 1) + c) + u) k)
-    looking-open u o e s b t = record {
+        → Looking width height x y gx gy g m l (v + 1) (cond b v r) (cond b (at g v + u) k)
+    looking-open past inside u o e s b t = record {
       on = on b;
-      leads = rw further
-          (scan-open (contest-fair D S) (contest-shown width height gx gy g m l) (omega arith) (column-below D c inside .1)
-          (eq-eqb (at m (y * (width + 1) + c)) 1 o) (at g (y * (width + 1) + c) + u)
-          (ap (λ (z : ℕ). at g (y * (width + 1) + c) + z) (e ∙ sym (to-goal width gx gy c y (column-below D c inside .0)))) (L .leads) b (sym s ∙ t));
+      leads = scan-open (contest-fair D S) (contest-shown width height gx gy g m l) past (below .1) (eq-eqb (at m v) 1 o) (at g v + u)
+          (ap (λ (z : ℕ). at g v + z) (e ∙ sym h)) (L .leads) b (sym s ∙ t);
     }
       where
-        on : (z : Bool) → cond z (y * (width + 1) + c) r < (width + 1) * (height + 1)
-        on true = column-below D c inside .1
+        below : (v - y * (width + 1) ≤ width) × (v < (width + 1) * (height + 1))
+        below = strip-below D v inside
+
+        -- its place has its number
+        back : v ≡ numberOf width (v - y * (width + 1)) y
+        back = omega arith
+
+        h : toGoal width gx gy v ≡ units (step (v - y * (width + 1)) gx) (step y gy)
+        h = ap (toGoal width gx gy) back ∙ to-goal width gx gy (v - y * (width + 1)) y (below .0)
+
+        on : (z : Bool) → cond z v r < (width + 1) * (height + 1)
+        on true = below .1
         on false = L .on
 
-  pub looked : {c r k : ℕ} → Looking width height x y gx gy g m l c r k → c ≡ groupEnd width x → Looked width height x y gx gy g m l r k
+  pub looked : {v r k : ℕ} → Looking width height x y gx gy g m l v r k → v ≡ y * (width + 1) + groupEnd width x → Looked width height x y gx gy g m l r k
   looked L e = record {
     on = L .on;
     leads = leads-part (λ v o t. strip-leaf width height x y (D .column) (D .row) v (rw e at t))

@@ -54,21 +54,20 @@ fn look(
     ensures { λ r. ⌜ Looked width height x y gx gy (now (g .entry)) (now (marks .entry)) (now (legs .entry)) (r .vertex) (r .f) ⌝ }
 {
     let row = y * (width + 1);
-    let end = group_end(width, x);
-    let mut column = x / GROUP * GROUP;
-    let mut first = row + column;
+    let end = row + group_end(width, x);
+    let mut v = row + x / GROUP * GROUP;
+    let mut first = v;
     let mut key = NO_KEY;
-    while column < end {
-        let v = row + column;
+    while v < end {
         if marks[v] == 1 {
             let own = g[v];
-            let f = own + units_between(column, y, gx, gy, table);
+            let f = own + units_between(v - row, y, gx, gy, table);
             if ahead(f, own, legs[v], v, key, first, g, legs) {
                 first = v;
                 key = f;
             }
         }
-        column += 1;
+        v += 1;
     }
     Leader {
         vertex: first,

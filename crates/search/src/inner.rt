@@ -14,6 +14,7 @@ use board::inner::number_of;
 use clearing::inner::begin;
 use entries::large_lengths;
 use entries::middle_lengths;
+use guard::inner::guard_cells;
 use offers::Request;
 use open::list::GROUP;
 use open::list::open_vertex;
@@ -27,8 +28,11 @@ use turns::inner::run;
 // The nodes of the largest board; node 0 is not used.
 const NODES: usize = 2 * LINE * (SIDE / GROUP + 1);
 
-// The search, by a table that has the lengths of its board. The nodes are made here and not lent, so that each is read and written
-// without a pointer to it.
+// The cells of the largest board with a line of cells all round it.
+const GUARDED: usize = (SIDE + 2) * (SIDE + 2);
+
+// The search, by a table that has the lengths of its board. The nodes and the guarded copy of the cells are made here and not
+// lent, so that each is read and written without a pointer to it.
 fn find_by(
     cells: &[u8],
     request: Request,
@@ -43,6 +47,8 @@ fn find_by(
     requires { ⌜ Known (diagonal request) (now table) ⌝ }
     ensures { λ r. ⌜ Searched (asked (now (cells .entry)) request) (state (now (g .entry)) (now (parents .entry)) (now (marks .entry)) (now (legs .entry)) 0 0) (state (now (g .exit)) (now (parents .exit)) (now (marks .exit)) (now (legs .exit)) (r .expansions) (r .tests)) (r .found) ⌝ }
 {
+    let mut guard = [1 as u8; GUARDED];
+    guard_cells(cells, request.width, request.height, &mut guard);
     let mut leads = [0 as Vertex; NODES];
     let mut keys = [NO_KEY; NODES];
     let start = number_of(request.width, request.sx, request.sy);
@@ -73,6 +79,7 @@ fn find_by(
     );
     run(
         cells,
+        &guard,
         request,
         g,
         parents,

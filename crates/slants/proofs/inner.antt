@@ -1,4 +1,3 @@
 -- What the proofs of `first_blocked` and of its callers use: laws over numbers.
-mod Indices
 pub mod Places
 mod Turns

@@ -7,11 +7,8 @@ use lib.Dec.{ltb, eqb}
 use lib.ListN.{getD}
 use Rattle.legs.specs.declared.Stop.{Stop}
 use Rattle.legs.specs.declared.Stop.the-variants.{Clear, Cell, Vertex}
+use Rattle.walls.specs.Leg.{forward}
 use Rattle.slants.specs.declared.inner.Steps.{Steps}
-
--- what a step from a towards b adds to an index where neighbours lie `stride` apart; `forward b a stride` is taken away
-unfoldable pub forward : (a b stride : ℕ) → ℕ
-forward a b stride = cond (ltb a b) stride 0
 
 -- the corner of the cell with this index that lies nearer to the first end of the leg from (ax, ay) to (bx, by)
 unfoldable pub cornerOf : (width ax ay bx by index : ℕ) → Stop

@@ -7,7 +7,7 @@ ghost use Rattle.board.specs.Board.{board};
 ghost use Rattle.board.specs.Inner.{Sound};
 ghost use Rattle.legs.specs.Leg.{far};
 ghost use Rattle.legs.specs.Stops.{cellsStop};
-ghost use Rattle.slants.specs.Walk.{forward, cornerOf, stopAt, pinch, StepsOf};
+ghost use Rattle.slants.specs.Walk.{cornerOf, stopAt, pinch, StepsOf};
 ghost use Rattle.legs.specs.Inner.{EndsOn};
 use legs::Stop;
 use walls::leg;
@@ -20,22 +20,15 @@ pub struct Steps {
     up: usize,
 }
 
-// What a step from a towards b adds to an index where neighbours lie `stride` apart; `forward(b, a, stride)` is taken away.
-fn forward(a: usize, b: usize, stride: usize) -> usize
-    ensures { λ r. ⌜ r ≡ forward a b stride ⌝ }
-{
-    if a < b { stride } else { 0 }
-}
-
 // The steps along the leg from (ax, ay) to (bx, by).
 fn steps_of(width: usize, ax: usize, ay: usize, bx: usize, by: usize) -> Steps
     ensures { λ r. ⌜ StepsOf width ax ay bx by r ⌝ }
 {
     Steps {
-        right: forward(ax, bx, 1),
-        left: forward(bx, ax, 1),
-        down: forward(ay, by, width),
-        up: forward(by, ay, width),
+        right: leg::forward(ax, bx, 1),
+        left: leg::forward(bx, ax, 1),
+        down: leg::forward(ay, by, width),
+        up: leg::forward(by, ay, width),
     }
 }
 
@@ -66,8 +59,8 @@ fn corner_of(width: usize, ax: usize, ay: usize, bx: usize, by: usize, index: us
     ensures { λ r. ⌜ r ≡ cornerOf width ax ay bx by index ⌝ }
 {
     Stop::Vertex(
-        index % width + forward(bx, ax, 1),
-        index / width + forward(by, ay, 1),
+        index % width + leg::forward(bx, ax, 1),
+        index / width + leg::forward(by, ay, 1),
     )
 }
 
@@ -136,9 +129,10 @@ pub fn first_blocked(
             if cell == last {
                 break 'columns cells.len();
             }
+            let beside = cell + step.right - step.left;
             let below = cell + step.down - step.up;
-            let next = below + step.right - step.left;
-            if is_pinch(cells, cell + step.right - step.left, below, next) {
+            let next = beside + step.down - step.up;
+            if is_pinch(cells, beside, below, next) {
                 break 'columns cells.len() + 1 + next;
             }
             ahead += n;

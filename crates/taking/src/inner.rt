@@ -3,8 +3,9 @@ ghost use mathlib.Core.Path.{_≡_};
 ghost use Prim.Native.Nat.{_^_, _≤_, _<_};
 ghost use Rattle.board.specs.Limits.{largestSide};
 ghost use Rattle.board.specs.Board.{columnOf, rowOf};
+ghost use Rattle.guard.specs.Guard.{Guarded};
 ghost use Rattle.table.specs.Lengths.{Known};
-ghost use Rattle.offers.specs.Request.{asked, sizeOf, diagonal, Asked};
+ghost use Rattle.offers.specs.Request.{boardOf, asked, sizeOf, diagonal, Asked};
 ghost use Rattle.theta.specs.Lent.{state, marked, Rounded};
 ghost use Rattle.taking.specs.Taking.{Taking};
 ghost use Rattle.offers.specs.Offers.{ListedFor};
@@ -32,6 +33,7 @@ fn spot_of(width: usize, v: Vertex) -> Spot
 // The sight tests so far go in and come out.
 pub fn expand(
     cells: &[u8],
+    guard: &[u8],
     request: Request,
     v: usize,
     tests: u64,
@@ -48,6 +50,7 @@ pub fn expand(
     requires { ⌜ tests < 2 ^ 62 ⌝ }
     requires { ⌜ ListedFor request (now g) (now marks) (now legs) (now leads) (now keys) ⌝ }
     requires { ⌜ Known (diagonal request) (now table) ⌝ }
+    requires { ⌜ Guarded (boardOf (now cells) request) (now guard) ⌝ }
     ensures { λ r. ⌜ Rounded (asked (now (cells .entry)) request) v (sizeOf request) (marked v (state (now (g .entry)) (now (parents .entry)) (now (marks .entry)) (now (legs .entry)) 0 tests)) (state (now (g .exit)) (now (parents .exit)) (now (marks .exit)) (now (legs .exit)) 0 r) ⌝ }
     ensures { λ r. ⌜ ListedFor request (now (g .exit)) (now (marks .exit)) (now (legs .exit)) (now (leads .exit)) (now (keys .exit)) ⌝ }
 {
@@ -70,6 +73,7 @@ pub fn expand(
     );
     round(
         cells,
+        guard,
         request,
         u,
         parent,

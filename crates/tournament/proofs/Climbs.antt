@@ -1,5 +1,5 @@
 -- The two climbs of the code, over every tournament at once. Assumes nothing.
-use mathlib.Core.Path.{_≡_, refl, _∙_}
+use mathlib.Core.Path.{_≡_, refl}
 use mathlib.Core.Logic.{_≢_}
 use mathlib.Core.Bool.{Bool, true, false, cond}
 use mathlib.Core.List.{List}
@@ -62,51 +62,53 @@ module _ {show : ℕ → ℕ → Rank} {n : ℕ} {a : Rank} {leaf : ℕ} {leads�
 
 -- ---- a leaf has a new leader
 
--- from the leaf, which has it already, to node i, which has the leader r with the key k
-pub record Renewing (show : ℕ → ℕ → Rank) (n leaf : ℕ) (leads₀ keys₀ : List ℕ) (i r k : ℕ) (leads keys : List ℕ) : Type 0 where
+-- from the leaf, whose leader is r₀ with the key k₀, to node i, which is to have the leader r with the key k
+pub record Renewing (show : ℕ → ℕ → Rank) (n leaf r₀ k₀ : ℕ) (leads₀ keys₀ : List ℕ) (i r k : ℕ) (leads keys : List ℕ) : Type 0 where
   pub seated : Seated n leads
+  pub on : r < n
   pub same-l : length leads ≡ length leads₀
   pub same-k : length keys ≡ length keys₀
-  pub leader : at leads i ≡ r
-  pub key : at keys i ≡ k
-  pub is : (G : Groups) (C : Contest) → WellRanked C → Shown C show → Planted G (C .size) → Mending G C leaf leads₀ keys₀ → Mending G C i leads keys
+  pub is : (G : Groups) (C : Contest) → WellRanked C → Shown C show → Planted G (C .size) → Mending G C leaf (set leads₀ leaf r₀) (set keys₀ leaf k₀)
+      → Mending G C i (set leads i r) (set keys i k)
 
-pub renewing-start : (show : ℕ → ℕ → Rank) {n : ℕ} {leads : List ℕ} (keys : List ℕ) (leaf r k : ℕ) → leaf < length leads → leaf < length keys → r < n
-    → Seated n leads → Renewing show n leaf (set leads leaf r) (set keys leaf k) leaf r k (set leads leaf r) (set keys leaf k)
-renewing-start show {leads = leads} keys leaf r k l h o S = record {
-  seated = seated-set leaf r l o S;
-  same-l = refl;
-  same-k = refl;
-  leader = getD-set-same leads leaf r 0 l;
-  key = getD-set-same keys leaf k 0 h;
-  is = λ G C _ _ _ M. M;
-}
+pub renewing-start : (show : ℕ → ℕ → Rank) {n : ℕ} {leads : List ℕ} (keys : List ℕ) (leaf r k : ℕ) → r < n → Seated n leads
+    → Renewing show n leaf r k leads keys leaf r k leads keys
+renewing-start show keys leaf r k o S = record { seated = S; on = o; same-l = refl; same-k = refl; is = λ G C _ _ _ M. M }
 
-module _ {show : ℕ → ℕ → Rank} {n leaf : ℕ} {leads₀ keys₀ : List ℕ} {i r k : ℕ} {leads keys : List ℕ}
-    (N : Renewing show n leaf leads₀ keys₀ i r k leads keys) where
-  -- of node i and its sibling s, the sooner leader has the node above
-  pub renewing-step : (s : ℕ) → 1 < i → s / 2 ≡ i / 2 → s ≢ i → i / 2 < length leads → i / 2 < length keys → (x : Bool)
-      → sooner (show (at leads s) (at keys s)) (show r k) ≡ x → (q : ℕ) → q ≡ cond x (at leads s) r → (l : ℕ) → l ≡ cond x (at keys s) k
-      → Renewing show n leaf leads₀ keys₀ (i / 2) q l (set leads (i / 2) q) (set keys (i / 2) l)
-  renewing-step s p e d a b x y q qe l le = record {
-    seated = seated-set (i / 2) q a (rw qe (on x)) (N .seated);
+module _ {show : ℕ → ℕ → Rank} {n leaf r₀ k₀ : ℕ} {leads₀ keys₀ : List ℕ} {i r k : ℕ} {leads keys : List ℕ}
+    (N : Renewing show n leaf r₀ k₀ leads₀ keys₀ i r k leads keys) (a : i < length leads) where
+  -- node i has its leader, and every leader is one of the numbers still
+  pub renewing-seated : Seated n (set leads i r)
+  renewing-seated = seated-set i r a (N .on) (N .seated)
+
+  -- of node i, which has its leader, and its sibling s, the node above is to have the sooner leader
+  pub renewing-step : i < length keys → (s : ℕ) → 1 < i → s / 2 ≡ i / 2 → s ≢ i → (x : Bool)
+      → sooner (show (at (set leads i r) s) (at (set keys i k) s)) (show r k) ≡ x
+      → (q : ℕ) → q ≡ cond x (at (set leads i r) s) r → (l : ℕ) → l ≡ cond x (at (set keys i k) s) k
+      → Renewing show n leaf r₀ k₀ leads₀ keys₀ (i / 2) q l (set leads i r) (set keys i k)
+  renewing-step b s p e d x y q qe l le = record {
+    seated = renewing-seated;
+    on = rw qe (on x);
     same-l = rw length-set (N .same-l);
     same-k = rw length-set (N .same-k);
-    leader = getD-set-same leads (i / 2) q 0 a;
-    key = getD-set-same keys (i / 2) l 0 b;
-    is = λ G C fair S P M. rw (qe, le, ← (N .leader), ← (N .key))
-        (mending-step (N .is G C fair S P M) fair S P s p e d x (rw (N .leader, N .key) y));
+    is = λ G C fair S P M. rw (qe, le) (rw (leader, key) at (mending-step (N .is G C fair S P M) fair S P s p e d x (rw (leader, key) y)));
   }
     where
-      on : (z : Bool) → cond z (at leads s) r < n
-      on true = N .seated .on s
-      on false = rw (N .leader) at (N .seated .on i)
+      leader : at (set leads i r) i ≡ r
+      leader = getD-set-same leads i r 0 a
 
-  pub renewing-end : {leads₁ keys₁ : List ℕ} (r₀ k₀ : ℕ) → leads₀ ≡ set leads₁ leaf r₀ → keys₀ ≡ set keys₁ leaf k₀ → i ≤ 1
-      → Renewed show n leaf r₀ k₀ leads₁ keys₁ leads keys
-  renewing-end r₀ k₀ x y l = record {
-    seated = N .seated;
+      key : at (set keys i k) i ≡ k
+      key = getD-set-same keys i k 0 b
+
+      on : (z : Bool) → cond z (at (set leads i r) s) r < n
+      on true = renewing-seated .on s
+      on false = N .on
+
+  -- at the root all is made anew
+  pub renewing-end : i ≤ 1 → Renewed show n leaf r₀ k₀ leads₀ keys₀ (set leads i r) (set keys i k)
+  renewing-end l = record {
+    seated = renewing-seated;
     kept = λ G C C′ w fair S P E o e T L.
         let P′ : Planted G (C′ .size) = rw (E .size-same) P in
-        mending-end (N .is G C′ fair S P′ (rw (x, y, ← e) (mending-start E P o T (rw e L)))) l;
+        mending-end (N .is G C′ fair S P′ (rw (← e) (mending-start E P o T (rw e L)))) l;
   }

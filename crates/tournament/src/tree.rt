@@ -1,7 +1,6 @@
 // The nodes of the tournament: each has the open vertex under it that is taken first, and its f. The nodes 2 i and 2 i + 1 are below i.
 ghost use mathlib.Core.Path.{_≡_};
 ghost use Prim.Native.Nat.{_+_, _-_, _*_, _/_, _^_, _<_};
-ghost use lib.ListN.{length};
 ghost use Rattle.reach.specs.Turns.{at};
 ghost use Rattle.theta.specs.Order.{ranked};
 ghost use Rattle.tournament.specs.Nodes.{Room, Seated, Won, Entered, Renewed};
@@ -84,20 +83,22 @@ pub fn renew(
     ensures { λ r. ⌜ Renewed (seen (now (g .entry)) (now (legs .entry))) (numbers (now (g .entry)) (now (legs .entry))) leaf (leader .vertex) (leader .f) (now (leads .entry)) (now (keys .entry)) (now (leads .exit)) (now (keys .exit)) ⌝ }
 {
     let mut i = leaf;
-    leads[i] = leader.vertex as Vertex;
-    keys[i] = leader.f;
+    let mut above = i / 2;
     let mut first = leader;
-    while 1 < i {
+    while 0 < above {
+        leads[i] = first.vertex as Vertex;
+        keys[i] = first.f;
         let s = sibling(i);
         let beside = Leader {
             vertex: leads[s] as usize,
             f: keys[s],
         };
         first = winner(first, beside, g, legs);
-        i = i / 2;
-        leads[i] = first.vertex as Vertex;
-        keys[i] = first.f;
+        i = above;
+        above = i / 2;
     }
+    leads[i] = first.vertex as Vertex;
+    keys[i] = first.f;
 }
 
 // The leader of all.

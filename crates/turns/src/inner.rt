@@ -2,9 +2,10 @@
 ghost use mathlib.Core.Path.{_≡_};
 ghost use Prim.Native.Nat.{suc};
 ghost use Rattle.reach.specs.Turns.{turns};
+ghost use Rattle.guard.specs.Guard.{Guarded};
 ghost use Rattle.table.specs.Lengths.{Known};
 ghost use Rattle.theta.specs.Search.{basic};
-ghost use Rattle.offers.specs.Request.{asked, sizeOf, diagonal, Asked};
+ghost use Rattle.offers.specs.Request.{boardOf, asked, sizeOf, diagonal, Asked};
 ghost use Rattle.theta.specs.Lent.{state, Begins};
 ghost use Rattle.offers.specs.Offers.{ListedFor};
 use crate::Outcome;
@@ -18,6 +19,7 @@ use tournament::tree::first;
 // All the turns. They end, for each but the last expands a vertex that was not expanded (`going-room`).
 pub fn run(
     cells: &[u8],
+    guard: &[u8],
     request: Request,
     g: &mut [u64],
     parents: &mut [Vertex],
@@ -31,6 +33,7 @@ pub fn run(
     requires { ⌜ Begins (asked (now cells) request) (state (now g) (now parents) (now marks) (now legs) 0 0) ⌝ }
     requires { ⌜ ListedFor request (now g) (now marks) (now legs) (now leads) (now keys) ⌝ }
     requires { ⌜ Known (diagonal request) (now table) ⌝ }
+    requires { ⌜ Guarded (boardOf (now cells) request) (now guard) ⌝ }
     ensures { λ r. ⌜ turns (basic (asked (now (cells .entry)) request)) (suc (sizeOf request)) (state (now (g .entry)) (now (parents .entry)) (now (marks .entry)) (now (legs .entry)) 0 0) ≡ record { found = r .found; state = state (now (g .exit)) (now (parents .exit)) (now (marks .exit)) (now (legs .exit)) (r .expansions) (r .tests) } ⌝ }
 {
     let goal = number_of(request.width, request.gx, request.gy) as usize;
@@ -48,6 +51,7 @@ pub fn run(
         expansions += 1;
         tests = expand(
             cells,
+            guard,
             request,
             v,
             tests,

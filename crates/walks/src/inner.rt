@@ -1,21 +1,16 @@
 // Calls for the crates above, which have checked their board: each says what it requires.
 ghost use mathlib.Core.Path.{_≡_};
-ghost use mathlib.Core.Bool.{true};
 ghost use Rattle.board.specs.Board.{board};
 ghost use Rattle.board.specs.Inner.{Sound};
 ghost use Rattle.legs.specs.Sight.{sees};
 ghost use Rattle.legs.specs.Stops.{firstStop};
-ghost use Rattle.legs.specs.Neighbours.{neighbours};
 ghost use Rattle.legs.specs.Inner.{EndsOn};
-use board::inner::is_cell_blocked;
 use edges::inner::first_walled;
 use edges::inner::stop_after;
 use legs::Stop;
 use slants::inner::first_blocked;
 use slants::inner::stop_at;
 use walls::leg;
-use walls::walls::is_column_wall;
-use walls::walls::is_row_wall;
 
 // What stops the leg first, counted from its first end.
 pub fn first_stop(
@@ -64,30 +59,4 @@ pub fn sees(
         return first_walled(cells, width, height, false, ax, ay, by) == leg::distance(ay, by);
     }
     first_blocked(cells, width, height, ax, ay, bx, by) == cells.len()
-}
-
-// The same for neighbours, by the one cell between them or the two beside them.
-pub fn sees_neighbour(
-    cells: &[u8],
-    width: usize,
-    height: usize,
-    ax: usize,
-    ay: usize,
-    bx: usize,
-    by: usize,
-) -> bool
-    requires { ⌜ Sound (board (now cells) width height) ⌝ }
-    requires { ⌜ EndsOn (board (now cells) width height) ax ay bx by ⌝ }
-    requires { ⌜ neighbours ax ay bx by ≡ true ⌝ }
-    ensures { λ r. ⌜ r ≡ sees (board (now (cells .entry)) width height) ax ay bx by ⌝ }
-{
-    let x = leg::lesser(ax, bx);
-    let y = leg::lesser(ay, by);
-    if ay == by {
-        return !is_row_wall(cells, width, height, x, ay);
-    }
-    if ax == bx {
-        return !is_column_wall(cells, width, height, ax, y);
-    }
-    !is_cell_blocked(cells, width, height, x, y)
 }

@@ -1,7 +1,8 @@
 // A leg in steps from its first end, on one axis from a to b.
 ghost use mathlib.Core.Path.{_≡_};
-ghost use Prim.Native.Nat.{_≤_, _<_, min};
+ghost use Prim.Native.Nat.{_≤_, _<_};
 ghost use Rattle.legs.specs.Leg.{far, vertexAt, cellAt};
+ghost use Rattle.walls.specs.Leg.{forward};
 
 // How far apart a and b are.
 pub fn distance(a: usize, b: usize) -> usize
@@ -26,9 +27,9 @@ pub fn cell(a: usize, b: usize, s: usize) -> usize
     if a < b { a + s } else { a - (s + 1) }
 }
 
-// The lesser of a and b.
-pub fn lesser(a: usize, b: usize) -> usize
-    ensures { λ r. ⌜ r ≡ min a b ⌝ }
+// What a step from a towards b adds to an index where neighbours lie `stride` apart; `forward(b, a, stride)` is taken away.
+pub fn forward(a: usize, b: usize, stride: usize) -> usize
+    ensures { λ r. ⌜ r ≡ forward a b stride ⌝ }
 {
-    if a < b { a } else { b }
+    if a < b { stride } else { 0 }
 }

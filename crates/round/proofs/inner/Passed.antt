@@ -1,108 +1,129 @@
--- The round goes along the rows beside the taken vertex: what holds once the vertices below a place have been looked at. Assumes nothing.
-use mathlib.Core.Path.{_≡_, _∙_}
-use mathlib.Core.Logic.{_⊎_, inl, inr}
+-- The round goes over the places round the taken vertex: what holds once those below a place have been passed. Assumes nothing.
+use mathlib.Core.Path.{_≡_, sym, ap, _∙_}
+use mathlib.Core.Logic.{⊎-elim}
+use mathlib.Core.Bool.{true, false, _&&_, true≢false}
 use mathlib.Core.List.{List}
-use Prim.Native.Nat.{ℕ, _+_, _-_, _*_, _≤_, _<_, min}
+use Prim.Native.Nat.{ℕ, _+_, _≤_, _<_}
 use native.Mathlib.Omega.{arith}
-use Rattle.laws.proofs.Tests.{order}
+use lib.Dec.{leb}
+use lib.Pow.{pow-pos}
+use borrow.Author.Tests.{lt-ltb, le-ltb, le-leb, leb-true, lt-leb}
+use Rattle.laws.proofs.Tests.{order, and-both, and-left, and-right, false-of}
+use Rattle.glance.specs.Glance.{bit, Lowest, Without, InSight, Glanced}
+use Rattle.glance.proofs.Bits.{no-bit}
 use Rattle.offers.specs.declared.Request.{Request}
 use Rattle.offers.specs.declared.Spot.{Spot}
 use Rattle.problem.specs.Problem.{problem}
-use Rattle.offers.specs.Request.{asked, sizeOf}
+use Rattle.offers.specs.Request.{boardOf, asked, sizeOf}
 use Rattle.theta.specs.Search.{State}
 use Rattle.theta.specs.Lent.{Rounded, Looked}
-use Rattle.offers.specs.Offers.{Taken, ListedFor}
+use Rattle.offers.specs.Offers.{Taken}
 use Rattle.theta.proofs.Tidy.{SameSizes}
 use Rattle.theta.proofs.Rounds.{rounded-none, rounded-more, rounded-skip, rounded-sizes, rounded-tests, rounded-parent, rounded-ready}
-use Rattle.offers.proofs.Places.{rows-le, far-above, far-below, far-beside}
+use Rattle.round.proofs.inner.Places.{At, at-order, at-later, near-place}
 
--- since the round began, the vertices below k have been looked at, and the open list is right
-pub record Passed (cells : List ℕ) (q : Request) (u : Spot) (before : State) (k : ℕ) (s : State) (leads keys : List ℕ) : Type 0 where
-  pub rounded : Rounded (asked cells q) (u .number) k before s
-  pub listed : ListedFor q (s .g) (s .mark) (s .legs) leads keys
+-- of the mask's bits those from a place on are left, and the vertices below a number have been looked at: those at the places before
+pub record Passed (cells : List ℕ) (q : Request) (u : Spot) (mask : ℕ) (before : State) (left : ℕ) (s : State) : Type 0 where
+  pub glanced : Glanced (boardOf cells q) (u .x) (u .y) mask
+  pub place : ℕ
+  pub number : ℕ
+  pub on : number ≤ sizeOf q
+  pub rest : (k : ℕ) → bit left k ≡ (leb place k && bit mask k)
+  pub passed : (k v : ℕ) → At (boardOf cells q) u k v → k < place → v < number
+  pub to-come : (k v : ℕ) → At (boardOf cells q) u k v → place ≤ k → number ≤ v
+  pub rounded : Rounded (asked cells q) (u .number) number before s
 
--- wherever the round began: if it had passed j then, it has passed k now
-pub record Onward (cells : List ℕ) (q : Request) (u : Spot) (j : ℕ) (r : State) (leads keys : List ℕ) (k : ℕ) (s : State) (leads′ keys′ : List ℕ)
-    : Type 0 where
-  pub is : (before : State) → Passed cells q u before j r leads keys → Passed cells q u before k s leads′ keys′
+-- nothing has been passed yet
+pub passed-none : {cells : List ℕ} {q : Request} {u : Spot} {mask : ℕ} (before : State)
+    → Glanced (boardOf cells q) (u .x) (u .y) mask → Passed cells q u mask before mask before
+passed-none {cells} {q} {u} before G = record {
+  glanced = G;
+  place = 0;
+  number = 0;
+  on = omega arith;
+  rest = λ k. rw (le-leb 0 k (omega arith));
+  passed = λ k v A h. absurd (omega arith);
+  to-come = λ k v A h. omega arith;
+  rounded = rounded-none (asked cells q) (u .number) before;
+}
 
--- one more vertex
-pub passed-more : {cells : List ℕ} {q : Request} {u : Spot} {before : State} {k : ℕ} {r s : State} {leads keys leads′ keys′ : List ℕ}
-    → Passed cells q u before k r leads keys → Looked (asked cells q) (u .number) k r s → ListedFor q (s .g) (s .mark) (s .legs) leads′ keys′
-    → Passed cells q u before (k + 1) s leads′ keys′
-passed-more P L A = record { rounded = rounded-more (P .rounded) L; listed = A }
-
--- a row is on the board
-pub below-size : (q : Request) (y : ℕ) → y < q .height + 1 → y * (q .width + 1) + (q .width + 1) ≤ sizeOf q
-below-size q y l = omega (arith, rows-le (q .width + 1) (q .height + 1) y l)
-
-module _ {cells : List ℕ} {q : Request} {u from : Spot} {before : State} (T : Taken cells q u from before) where
-  -- the rows above are not beside u
-  pub passed-top : {leads keys : List ℕ} → ListedFor q (before .g) (before .mark) (before .legs) leads keys
-      → Passed cells q u before ((u .y - 1) * (q .width + 1)) before leads keys
-  passed-top A = record {
-    rounded = rounded-skip (rounded-none (asked cells q) (u .number) before) ((u .y - 1) * (q .width + 1)) (omega arith)
-        (λ v _ h. far-above cells q (T .placed) v h);
-    listed = A;
+-- what a round leaves as it was, however far it has come
+module _ {cells : List ℕ} {q : Request} {u from : Spot} {before : State} (T : Taken cells q u from before) {k : ℕ} {s : State}
+    (R : Rounded (asked cells q) (u .number) k before s) (l : k ≤ sizeOf q) where
+  -- the taken vertex
+  pub still-taken : Taken cells q u from s
+  unfolding problem
+  still-taken = record {
+    asked-for = T .asked-for;
+    placed = T .placed;
+    placed-parent = T .placed-parent;
+    parent-is = rounded-parent R (T .ready) l ∙ T .parent-is;
+    ready = rounded-ready R (T .ready) l;
   }
 
-  module _ {k : ℕ} {s : State} {leads keys : List ℕ} (P : Passed cells q u before k s leads keys) where
-    -- the columns left of those beside u
-    pub passed-left : (y x : ℕ) → x ≡ u .x - 1 → k ≡ y * (q .width + 1)
-        → Passed cells q u before (y * (q .width + 1) + x) s leads keys
-    passed-left y x m e = record {
-      rounded = rounded-skip (P .rounded) (y * (q .width + 1) + x) (omega arith)
-          (λ v l h. far-beside cells q (T .placed) y v (omega arith) (omega (arith, T .placed .on .x-on)) (inl (omega arith)));
-      listed = P .listed;
-    }
+  -- no more tests than vertices
+  pub few-tests : s .tests ≤ before .tests + k
+  unfolding problem
+  few-tests = rounded-tests R (T .ready) l
 
-    -- those right of them, up to the next row
-    pub passed-right : (y x : ℕ) → x ≡ min (u .x + 2) (q .width + 1) → k ≡ y * (q .width + 1) + x
-        → Passed cells q u before ((y + 1) * (q .width + 1)) s leads keys
-    passed-right y x m e = record {
-      rounded = rounded-skip (P .rounded) ((y + 1) * (q .width + 1)) (omega arith)
-          (λ v l h. far-beside cells q (T .placed) y v (omega arith) (omega arith) (inr (omega arith)));
-      listed = P .listed;
-    }
+  pub same-sizes : SameSizes before s
+  unfolding problem
+  same-sizes = rounded-sizes R (T .ready) l
 
-    -- the rows below are not beside u
-    pub passed-bottom : (y : ℕ) → y ≡ min (u .y + 2) (q .height + 1) → k ≡ y * (q .width + 1)
-        → Passed cells q u before (sizeOf q) s leads keys
-    passed-bottom y m e = go (order (u .y + 2) (q .height + 1))
-      where
-        done : k ≤ sizeOf q → ((v : ℕ) → k ≤ v → v < sizeOf q → (u .y + 2) * (q .width + 1) ≤ v)
-            → Passed cells q u before (sizeOf q) s leads keys
-        done l f = record {
-          rounded = rounded-skip (P .rounded) (sizeOf q) l (λ v a h. far-below cells q (T .placed) v (f v a h));
-          listed = P .listed;
-        }
+module _ {cells : List ℕ} {q : Request} {u from : Spot} {before : State} (T : Taken cells q u from before)
+    {mask left : ℕ} {s : State} (P : Passed cells q u mask before left s) where
+  -- a place from that one on has its bit, if its vertex is near
+  near-left : (v : ℕ) → P .number ≤ v → (asked cells q) .near (u .number) v ≡ true → (k : ℕ) × At (boardOf cells q) u k v × (bit left k ≡ true)
+  near-left v l h =
+      let (k, A, other) = near-place cells q (T .placed) v h in
+      let later : P .place ≤ k =
+      ⊎-elim (λ (e : k < P .place). absurd (omega (arith, P .passed k v A e))) (λ (g : P .place ≤ k). g) (order k (P .place)) in
+      (k, A, rw (P .rest k) (and-both (le-leb (P .place) k later) (P .glanced .complete k (A .sight) other)))
 
-        go : (u .y + 2 < q .height + 1) ⊎ (q .height + 1 ≤ u .y + 2) → Passed cells q u before (sizeOf q) s leads keys
-        go (inl a) =
-            let z : y ≡ u .y + 2 = omega arith in
-            let r : k ≡ (u .y + 2) * (q .width + 1) = rw (← z) e in
-            done (omega (arith, below-size q (u .y + 2) a)) (λ v i h. omega arith)
-        go (inr a) =
-            let z : y ≡ q .height + 1 = omega arith in
-            let r : k ≡ (q .height + 1) * (q .width + 1) = rw (← z) e in
-            done (omega arith) (λ v i h. absurd (omega arith))
+  -- no bit is left: all vertices have been passed
+  pub passed-all : left ≡ 0 → Rounded (asked cells q) (u .number) (sizeOf q) before s
+  passed-all e =
+      rounded-skip (P .rounded) (sizeOf q) (P .on)
+      (λ v l _. false-of _ (λ h. let (k, A, set) = near-left v l h in true≢false (sym set ∙ ap (λ (n : ℕ). bit n k) e ∙ no-bit 0 k (pow-pos k))))
 
-    module _ (l : k ≤ sizeOf q) where
-      -- the taken vertex is as it was
-      pub passed-taken : Taken cells q u from s
-      unfolding problem
-      passed-taken = record {
-        asked-for = T .asked-for;
-        placed = T .placed;
-        placed-parent = T .placed-parent;
-        parent-is = rounded-parent (P .rounded) (T .ready) l ∙ T .parent-is;
-        ready = rounded-ready (P .rounded) (T .ready) l;
+  -- the first place that is left
+  module _ {z : ℕ} (L : Lowest left z) where
+    left-both : (leb (P .place) z ≡ true) × (bit mask z ≡ true)
+    left-both =
+        let both = sym (P .rest z) ∙ L .set in
+        (and-left (leb (P .place) z) (bit mask z) both, and-right (leb (P .place) z) (bit mask z) both)
+
+    pub left-sight : InSight (boardOf cells q) (u .x) (u .y) z
+    left-sight = P .glanced .sound z (left-both .1)
+
+    left-later : P .place ≤ z
+    left-later = leb-true (P .place) z (left-both .0)
+
+    module _ {n : ℕ} (A : At (boardOf cells q) u z n) where
+      -- the vertices before it are not near
+      pub passed-before : Rounded (asked cells q) (u .number) n before s
+      passed-before =
+          rounded-skip (P .rounded) n (P .to-come z n A left-later) (λ v l h. false-of _ (λ e.
+          let (k, B, set) = near-left v l e in
+          ⊎-elim (λ (f : k < z). true≢false (sym set ∙ L .below k f)) (λ (g : z ≤ k). omega (arith, at-later A B g)) (order k z)))
+
+      -- it has been looked at: the round goes on behind it
+      pub passed-more : {r : ℕ} {after : State} → Without left r → n < sizeOf q → Looked (asked cells q) (u .number) n s after
+          → Passed cells q u mask before r after
+      passed-more {r} W l K = record {
+        glanced = P .glanced;
+        place = z + 1;
+        number = n + 1;
+        on = omega arith;
+        rest = rest;
+        passed = λ k v B h. omega (arith, at-later B A (omega arith));
+        to-come = λ k v B h. omega (arith, at-order A B (omega arith));
+        rounded = rounded-more passed-before K;
       }
-
-      pub passed-tests : s .tests ≤ before .tests + k
-      unfolding problem
-      passed-tests = rounded-tests (P .rounded) (T .ready) l
-
-      pub passed-sizes : SameSizes before s
-      unfolding problem
-      passed-sizes = rounded-sizes (P .rounded) (T .ready) l
+        where
+          rest : (k : ℕ) → bit r k ≡ (leb (z + 1) k && bit mask k)
+          rest k =
+              ⊎-elim
+              (λ (f : z < k).
+              rw (W .others z L k, P .rest k, lt-ltb z k f, le-leb (z + 1) k (omega arith), le-leb (P .place) k (omega (arith, left-later))))
+              (λ (g : k ≤ z). rw (W .others z L k, le-ltb z k g, lt-leb (z + 1) k (omega arith))) (order z k)

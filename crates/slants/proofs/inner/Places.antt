@@ -1,7 +1,7 @@
 -- The places of a slanted leg in the cells: the vertex u columns and v rows from its first end, the cell behind
 -- it, its byte and its index. Assumes nothing.
 use Prim.Native.Nat.{ℕ, _+_, _*_, _-_, _/_, _%_, _≤_, _<_}
-use mathlib.Core.Path.{_≡_, refl, sym, ap, ap₂, _∙_, subst₂}
+use mathlib.Core.Path.{_≡_, refl, sym, ap₂, _∙_, subst₂}
 use mathlib.Core.Logic.{⊎-elim}
 use mathlib.Core.Bool.{Bool, true, false}
 use native.Mathlib.Nat.{le-trans, mul-le-mul, mul-add-mod-self-right, mod-eq-of-lt, div-eq-of-lt-le}
@@ -14,6 +14,7 @@ use Rattle.board.specs.Limits.{largestSide, mostVertices}
 use Rattle.board.specs.Board.{Board, blocked}
 use Rattle.board.specs.Inner.{Sound, OnBoard}
 use Rattle.board.proofs.Numbers.{cell-index}
+use Rattle.board.proofs.Cells.{byte-is}
 use Rattle.legs.specs.declared.Stop.{Stop}
 use Rattle.legs.specs.declared.Stop.the-variants.{Clear, Cell, Vertex}
 use Rattle.slants.specs.declared.inner.Steps.{Steps}
@@ -21,27 +22,24 @@ use Rattle.legs.specs.Pinched.{pinched}
 use Rattle.legs.specs.Sight.{crossed}
 use Rattle.legs.specs.Leg.{far, vertexAt, cellAt}
 use Rattle.legs.specs.Stops.{isClear, vertexStop, cellStop, placeStop}
-use Rattle.slants.specs.Walk.{forward, cornerOf, stopAt, pinch, StepsOf}
+use Rattle.walls.specs.Leg.{forward}
+use Rattle.slants.specs.Walk.{cornerOf, stopAt, pinch, StepsOf}
 use Rattle.legs.specs.Inner.{EndsOn}
 use Rattle.legs.proofs.Axis.{axis-far, axis-on, vertex-start}
 use Rattle.legs.proofs.Crossing.{Crosses, cross-in, cross-out}
 use Rattle.legs.proofs.Inside.{Through, inside-in, inside-through}
 use Rattle.legs.proofs.Pinches.{pinched-slanted}
 use Rattle.legs.proofs.First.{outside-clear, vertex-stops}
-use Rattle.slants.proofs.inner.Indices.{forward-most, cell-step, cell-next, cell-end}
+use Rattle.walls.proofs.leg.Indices.{forward-most, cell-step, cell-next, cell-end}
 
 -- ---- a cell of the board by its index
 
 module _ (b : Board) (x y i : ℕ) (hx : x < b .width) (hy : y < b .height) (e : i ≡ y * b .width + x) where
-  byte-is : blocked b x y ≡ eqb (getD (b .cells) i 0) 1
-  unfolding blocked
-  byte-is = rw (lt-ltb x (b .width) hx, lt-ltb y (b .height) hy, e)
-
   pub byte-blocked : getD (b .cells) i 0 ≡ 1 → blocked b x y ≡ true
-  byte-blocked h = rw byte-is (eq-eqb _ _ h)
+  byte-blocked h = rw (byte-is b x y i hx hy e) (eq-eqb _ _ h)
 
   pub byte-free : (getD (b .cells) i 0 ≡ 1 → ⊥) → blocked b x y ≡ false
-  byte-free h = rw byte-is (ne-eqb _ _ h)
+  byte-free h = rw (byte-is b x y i hx hy e) (ne-eqb _ _ h)
 
   column-is : i % b .width ≡ x
   column-is = rw e (mul-add-mod-self-right y (b .width) x ∙ mod-eq-of-lt hx)

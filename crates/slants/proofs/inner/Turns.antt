@@ -216,7 +216,7 @@ module _ {b : Board} {ax ay bx by n m : ℕ} {step : Steps} {u v ahead cell : �
       -- by a corner
       module _ (e : ahead ≡ m) (h : (u + 1 < n) × (v + 1 < m)) (beside below next : ℕ)
           (beside-is : beside ≡ cell + step .right - step .left) (below-is : below ≡ cell + step .down - step .up)
-          (next-is : next ≡ below + step .right - step .left) where
+          (next-is : next ≡ beside + step .down - step .up) where
         beside-place : beside ≡ placeAt b ax ay bx by (u + 1) v
         beside-place = omega (arith, c .cell-is, column-step (c .leg) u v (h .0))
 
@@ -224,19 +224,19 @@ module _ {b : Board} {ax ay bx by n m : ℕ} {step : Steps} {u v ahead cell : �
         below-place = omega (arith, c .cell-is, row-step (c .leg) u v (h .1))
 
         corner-place : next ≡ placeAt b ax ay bx by (u + 1) (v + 1)
-        corner-place = omega (arith, below-place, column-step (c .leg) u (v + 1) (h .0))
+        corner-place = omega (arith, beside-place, row-step (c .leg) (u + 1) v (h .1))
 
         -- the sums on the way
-        pub sums-small : (cell + step .right < 4 * mostVertices) × (below + step .right < 4 * mostVertices)
+        pub sums-small : (cell + step .right < 4 * mostVertices) × (beside + step .down < 4 * mostVertices)
         sums-small = (
           omega (arith, c .cell-is, place-small (c .leg) u v (c .u-in) (c .v-in)),
-          omega (arith, below-place, place-small (c .leg) u (v + 1) (c .u-in) (h .1)),
+          omega (arith, beside-place, place-small (c .leg) (u + 1) v (h .0) (c .v-in)),
         )
 
-        pub sums-fit : (step .left ≤ cell + step .right) × (step .left ≤ below + step .right)
+        pub sums-fit : (step .left ≤ cell + step .right) × (step .up ≤ beside + step .down)
         sums-fit = (
           omega (arith, c .cell-is, column-step (c .leg) u v (h .0)),
-          omega (arith, below-place, column-step (c .leg) u (v + 1) (h .0)),
+          omega (arith, beside-place, row-step (c .leg) (u + 1) v (h .1)),
         )
 
         pub cells-read : (beside < length (b .cells)) × (below < length (b .cells)) × (next < length (b .cells))

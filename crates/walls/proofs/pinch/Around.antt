@@ -1,11 +1,9 @@
 -- The four cells round a vertex, read two by two: where the two on one side are alike it is not pinched; where they differ the
 -- other two decide. Assumes nothing.
-use Prim.Native.Nat.{ℕ, _-_, _<_}
+use Prim.Native.Nat.{ℕ, _-_}
 use mathlib.Core.Path.{_≡_, refl, sym}
 use mathlib.Core.Bool.{Bool, true, false, _&&_, Bool·beq}
-use borrow.Author.Tests.{ltb-true}
-use lib.Dec.{ltb}
-use Rattle.laws.proofs.Tests.{and-left, and-right, and-false}
+use Rattle.laws.proofs.Tests.{and-false}
 use Rattle.board.specs.Board.{Board, blocked}
 use Rattle.legs.specs.Pinched.{onInside, crosswise, pinched}
 
@@ -32,19 +30,6 @@ others nw true sw true e = cc
 others nw false sw false e = cc
 
 module _ (b : Board) (x y : ℕ) where
-  -- where a vertex on the inside stands
-  pub inside-at : onInside b x y ≡ true → (0 < x) × (x < b .width) × (0 < y) × (y < b .height)
-  inside-at h =
-      let p : Bool = ltb 0 x && ltb x (b .width) in
-      let q : Bool = ltb 0 y && ltb y (b .height) in
-      let l = and-left p q h in
-      let r = and-right p q h in (
-        ltb-true 0 x (and-left (ltb 0 x) (ltb x (b .width)) l),
-        ltb-true x (b .width) (and-right (ltb 0 x) (ltb x (b .width)) l),
-        ltb-true 0 y (and-left (ltb 0 y) (ltb y (b .height)) r),
-        ltb-true y (b .height) (and-right (ltb 0 y) (ltb y (b .height)) r),
-      )
-
   -- on the border
   pub border-unpinched : onInside b x y ≡ false → false ≡ pinched b x y
   unfolding pinched

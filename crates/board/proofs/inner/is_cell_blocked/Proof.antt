@@ -1,8 +1,10 @@
 -- `board::inner::is_cell_blocked` reads the cell's byte, which lies within the slice.
 use native.Mathlib.Omega.{arith}
-use borrow.Author.Tests.{lt-ltb}
-use Rattle.board.specs.Board.{blocked}
+use mathlib.Core.Path.{refl, sym}
+use denote.Ref.{now}
+use Rattle.board.specs.Board.{board}
 use Rattle.board.proofs.Numbers.{cell-index}
+use Rattle.board.proofs.Cells.{byte-is}
 use Rattle.board.proofs.inner.is_cell_blocked.Statement.{statement}
 use Rattle.board.proofs.inner.is_cell_blocked.Tie as tie
 
@@ -19,8 +21,10 @@ shared-slice-read-result c =
     omega (arith, cell-index (a .width) (a .height) (a .x) (a .y) (s .pre .1 .0) (s .pre .1 .1))
 
 returns : tie.Need-returns
-unfolding blocked
-returns c = let s = c .before in simp (lt-ltb _ _ (s .pre .1 .0), lt-ltb _ _ (s .pre .1 .1))
+returns c =
+    let s = c .before in
+    let a = s .args in
+    sym (byte-is (board (now (a .cells)) (a .width) (a .height)) (a .x) (a .y) _ (s .pre .1 .0) (s .pre .1 .1) refl)
 
 pub is-cell-blocked-spec : {M : Type 1} → statement M
 is-cell-blocked-spec = tie.close (tie.spec mul-result add-result shared-slice-read-result returns)

@@ -5,24 +5,22 @@ use mathlib.Core.Bool.{Bool, true, false, _||_, cond}
 use mathlib.Core.List.{List}
 use Prim.Native.Nat.{ℕ, _+_, _^_, _≤_, _<_}
 use native.Mathlib.Omega.{arith}
-use borrow.Author.Needs.{needs}
 use denote.Ref.{now}
 use lib.Dec.{eqb, ltb}
 use lib.ListN.{length, set, length-set}
 use Rattle.laws.proofs.Tests.{answered-no, answered-yes}
 use Rattle.board.specs.Limits.{mostVertices}
-use Rattle.legs.specs.Sight.{sees}
-use Rattle.table.proofs.Table.{known-leg}
 use Rattle.reach.specs.Turns.{at}
 use Rattle.theta.specs.Order.{lessOr}
 use Rattle.theta.specs.Search.{Problem, State}
 use Rattle.theta.specs.Lent.{state}
 use Rattle.problem.specs.Problem.{problem}
 use Rattle.problem.specs.Sizes.{largest}
-use Rattle.offers.specs.Request.{boardOf, asked, sizeOf, Placed}
+use Rattle.offers.specs.Request.{boardOf, asked, sizeOf}
 use Rattle.theta.proofs.Rounds.{look-far, look-done, look-due, fell, ready-candidate}
-use Rattle.problem.proofs.Sizes.{vertices-most, largest-fits, leg-longest}
-use Rattle.offers.proofs.Places.{placed-below, placed-cond, len-said, candidate-number, taken-admitted, seen-admitted}
+use Rattle.problem.proofs.Fair.{board-legs}
+use Rattle.problem.proofs.Sizes.{vertices-most, largest-fits}
+use Rattle.offers.proofs.Places.{placed-below, taken-admitted, seen-admitted}
 use Rattle.looks.proofs.inner.look.Statement.{statement}
 use Rattle.looks.proofs.inner.look.Tie as tie
 
@@ -42,7 +40,7 @@ on s = placed-below (s .pre .1 .0 .placed)
 
 -- the start, from where the mark is read and from where it is known
 abbrev begun : tie.After-slice-known7 → tie.Start
-begun c = c .before .before .before .before .before .before .before .before .before
+begun c = c .before .before .before .before .before .before .before .before .before .before
 
 slice-read-mark : tie.Need-slice-read-mark
 unfolding problem
@@ -68,15 +66,17 @@ returns c =
 is-visible-requires : tie.Need-is-visible-requires
 is-visible-requires c κs =
     let s = start c in
-    let T = s .pre .0 in
-    record {
-      asked-for = T .asked-for;
-      placed = T .placed;
-      beside = s .pre .1 .0;
-      apart = apart c;
-      admitted = taken-admitted T;
-      seen-admitted = λ h. seen-admitted T (s .args .w .number) (on s) h;
-    }
+    let T = s .pre .0 in (
+      record {
+        asked-for = T .asked-for;
+        placed = T .placed;
+        beside = s .pre .1 .0;
+        apart = apart c;
+        admitted = taken-admitted T;
+        seen-admitted = λ h. seen-admitted T (s .args .w .number) (on s) h;
+      },
+      s .pre .1 .1 .1 .1 .1,
+    )
 
 returns-2 : tie.Need-returns-2
 returns-2 c =
@@ -89,29 +89,21 @@ returns-2 c =
 from-is : (k : tie.After-candidate) → let s = start (k .before .before .before) in
     let a = s .args in
     let o = at (now (a .parents)) (a .u .number) in
-    k .candidate .result .number ≡ cond (asking s .sees o (a .w .number)) o (a .u .number)
-from-is k =
-    let s = start (k .before .before .before) in
-    let a = s .args in
-    rw (s .pre .0 .parent-is)
-    (candidate-number (now (a .cells)) (a .request) (s .pre .0 .placed-parent) (s .pre .1 .0 .placed) (k .candidate .result) (a .u) (k .candidate .ensures))
-
-from-placed : (k : tie.After-candidate) → let a = start (k .before .before .before) .args in Placed (boardOf (now (a .cells)) (a .request)) (k .candidate .result)
-from-placed k =
-    let s = start (k .before .before .before) in
-    let a = s .args in
-    let seen = sees (boardOf (now (a .cells)) (a .request)) (a .parent .x) (a .parent .y) (a .w .x) (a .w .y) in
-    rw (k .candidate .ensures) (placed-cond seen (s .pre .0 .placed-parent) (s .pre .0 .placed))
+    k .candidate .result .parent ≡ cond (asking s .sees o (a .w .number)) o (a .u .number)
+from-is k = let s = start (k .before .before .before) in rw (s .pre .0 .parent-is) (k .candidate .ensures .parent-is)
 
 from-on : (k : tie.After-candidate) → let a = start (k .before .before .before) .args in
-    (k .candidate .result .number < sizeOf (a .request))
-    × (at (now (a .g)) (k .candidate .result .number) ≤ largest (a .request .width) (a .request .height))
-    × (at (now (a .legs)) (k .candidate .result .number) < sizeOf (a .request))
+    (k .candidate .result .parent < sizeOf (a .request))
+    × (at (now (a .g)) (k .candidate .result .parent) ≤ largest (a .request .width) (a .request .height))
+    × (at (now (a .legs)) (k .candidate .result .parent) < sizeOf (a .request))
 unfolding problem
-from-on k = let s = start (k .before .before .before) in ready-candidate (s .pre .0 .ready) (s .args .w .number) (k .candidate .result .number) (from-is k)
+from-on k = let s = start (k .before .before .before) in ready-candidate (s .pre .0 .ready) (s .args .w .number) (k .candidate .result .parent) (from-is k)
 
 candidate-requires : tie.Need-candidate-requires
-candidate-requires c κs = search needs
+candidate-requires c κs =
+    let s = start (c .before .before) in
+    let T = s .pre .0 in
+    (T .asked-for, ((T .placed, T .placed-parent, s .pre .1 .0 .placed), s .pre .1 .1 .1 .1 .0))
 
 mul-own : tie.Need-mul-own
 mul-own c = omega (arith, from-on c .0, few (start (c .before .before .before)))
@@ -120,39 +112,45 @@ slice-read-own : tie.Need-slice-read-own
 unfolding problem
 slice-read-own c = let k = c .before in omega (arith, from-on k .0, start (k .before .before .before) .pre .0 .ready .room-g)
 
-units-between-requires : tie.Need-units-between-requires
-units-between-requires c κs =
-    let k = c .before in
-    let s = start (k .before .before .before) in
-    let F = from-placed k .on in
-    let W = s .pre .1 .0 .placed .on in
-    let B = s .pre .0 .asked-for .sound in
-    known-leg (s .pre .1 .1 .1 .1) (B .narrow, B .low) (F .x-on, F .y-on, W .x-on, W .y-on)
-
 -- the candidate g
-abbrev candidate-g : tie.After-units-between → ℕ
-candidate-g j =
-    let k = j .before .before in
-    at (now (start (k .before .before .before) .args .g)) (k .candidate .result .number) + j .units-between .result
+abbrev candidate-g : tie.After-candidate → ℕ
+candidate-g k = at (now (start (k .before .before .before) .args .g)) (k .candidate .result .parent) + k .candidate .result .units
 
-own-small : (j : tie.After-units-between) → candidate-g j < 2 ^ 63
-own-small j =
-    let k = j .before .before in
+candidate-is : (k : tie.After-candidate) → let s = start (k .before .before .before) in
+    let c = k .candidate .result .parent in
+    candidate-g k ≡ at (now (s .args .g)) c + asking s .len c (s .args .w .number)
+candidate-is k = omega (arith, k .candidate .ensures .units-are)
+
+own-small : (k : tie.After-candidate) → candidate-g k < 2 ^ 63
+unfolding problem
+own-small k =
     let s = start (k .before .before .before) in
     let q = s .args .request in
-    let F = from-placed k .on in
-    let P = s .pre .1 .0 .placed .on in
-    let A = s .pre .0 .asked-for .sound in
+    let A = s .pre .0 .asked-for in
     omega (
       arith,
       from-on k .1,
-      j .units-between .ensures,
-      leg-longest (q .width) (q .height) (k .candidate .result .x) (k .candidate .result .y) (s .args .w .x) (s .args .w .y) (F .x-on) (F .y-on) (P .x-on) (P .y-on),
-      largest-fits (q .width) (q .height) (A .narrow) (A .low),
+      k .candidate .ensures .units-are,
+      board-legs (boardOf (now (s .args .cells)) q) (q .sx) (q .sy) (q .gx) (q .gy) .at-most (k .candidate .result .parent) (s .args .w .number) (from-on k .0) (on s),
+      largest-fits (q .width) (q .height) (A .sound .narrow) (A .sound .low),
     )
 
 add-own : tie.Need-add-own
-add-own c = omega (arith, own-small c)
+add-own c = omega (arith, own-small (c .before .before))
+
+-- the places on the way: the legs are counted, the test is made
+abbrev counted : tie.After-wins → tie.After-legs-by
+counted x = x .before .before .before
+
+abbrev measured : tie.After-legs-by → tie.After-candidate
+measured b = b .before .before .before .before
+
+abbrev found : tie.After-legs-by → tie.Start
+found b = start (measured b .before .before .before)
+
+-- the legs are one more than the parent's
+legs-are : (b : tie.After-legs-by) → b .legs-by .result ≡ at (now (found b .args .legs)) (measured b .candidate .result .parent) + 1
+legs-are b = b .legs-by .ensures
 
 -- the candidate parent is one of the vertices, and so are the taken vertex and its parent: each has few legs
 legs-by-requires : tie.Need-legs-by-requires
@@ -164,16 +162,6 @@ legs-by-requires c κs =
     let U = placed-below (s .pre .0 .placed) in
     let F = from-on k in
     (omega (arith, F .0, U, R .room-l), omega (arith, F .0, U, few s), omega (arith, F .2, R .few-legs, few s))
-
--- the places on the way: the legs are counted, the test is made
-abbrev counted : tie.After-wins → tie.After-legs-by
-counted x = x .before .before .before
-
-abbrev measured : tie.After-legs-by → tie.After-units-between
-measured b = b .before .before
-
-abbrev found : tie.After-legs-by → tie.Start
-found b = start (measured b .before .before .before .before .before)
 
 mul-old : tie.Need-mul-old
 mul-old c = let s = found c in omega (arith, on s, few s)
@@ -212,23 +200,18 @@ unfolding problem
 returns-3 c =
     let x = c .before in
     let b = counted x in
-    let j = measured b in
-    let k = j .before .before in
+    let k = measured b in
     let f = k .before .before in
     let e = k .before .before .before in
     let s = start e in
     let a = s .args in
-    let P = s .pre .1 .0 in
     let near = answered-yes {t = asking s .near (a .u .number) (a .w .number)} (f .is-visible .ensures) (k .before .if2 .left) in
-    let own = len-said (now (a .cells)) (a .request) (from-placed k) (P .placed) (at (now (a .g)) (k .candidate .result .number)) (j .units-between .ensures) in
-    -- the legs are one more than the parent's
-    let legs-are : b .legs-by .result ≡ at (now (a .legs)) (k .candidate .result .number) + 1 = b .legs-by .ensures in
-    let looked = look-due (asking s) (a .u .number) (a .w .number) (lent s) near (e .if1 .left) (k .candidate .result .number) (candidate-g j) (b .legs-by .result) (from-is k) own legs-are in
+    let looked = look-due (asking s) (a .u .number) (a .w .number) (lent s) near (e .if1 .left) (k .candidate .result .parent) (candidate-g k) (b .legs-by .result) (from-is k) (candidate-is k) (legs-are b) in
     elim (c .if3 .came) [
       | inl w ↦ let S = w .7 .ensures in
           -- they are what is written beside the parent
           let written : w .7 .last .1 .1 .1 .1 .1 .1 .1 .1 .0 ≡ set (now (a .legs)) (a .w .number) (b .legs-by .result) = S .legs-is in (
-            rw (w .20, w .21, w .22, w .23, S .g-is, S .parent-is, S .mark-is, settled-legs (now (a .legs)) (a .w .number) {l′ = w .7 .last .1 .1 .1 .1 .1 .1 .1 .1 .0} {n = b .legs-by .result} written legs-are)
+            rw (w .20, w .21, w .22, w .23, S .g-is, S .parent-is, S .mark-is, settled-legs (now (a .legs)) (a .w .number) {l′ = w .7 .last .1 .1 .1 .1 .1 .1 .1 .1 .0} {n = b .legs-by .result} written (legs-are b))
                 (looked true (better-is x true (w .0 .taken))),
             rw (w .20, w .22, w .23, w .24, w .25) (S .listed),
           )
@@ -244,8 +227,7 @@ settle-requires c κs =
     let t = c .before .before .before .before .before .before in
     let x = t .before in
     let b = counted x in
-    let j = measured b in
-    let k = j .before .before in
+    let k = measured b in
     let s = start (k .before .before .before) in
     let A = s .pre .0 .asked-for in
     let P = s .pre .1 .0 .placed in
@@ -261,14 +243,14 @@ settle-requires c κs =
         };
         lower = record {
           is = P .numbered;
-          small = own-small j;
-          less = λ o. fell (at (now (a .marks)) (a .w .number)) (candidate-g j) (b .legs-by .result) (at (now (a .g)) (a .w .number)) (at (now (a .legs)) (a .w .number))
+          small = own-small k;
+          less = λ o. fell (at (now (a .marks)) (a .w .number)) (candidate-g k) (b .legs-by .result) (at (now (a .g)) (a .w .number)) (at (now (a .legs)) (a .w .number))
               (better-is x true (t .if3 .taken)) o;
         };
         on-parent = from-on k .0;
         room-p = s .pre .0 .ready .room-p;
       },
-      (s .pre .1 .1 .1 .0, s .pre .1 .1 .1 .1),
+      (s .pre .1 .1 .1 .0, s .pre .1 .1 .1 .1 .0),
     )
 
 add-result : tie.Need-add-result
@@ -303,7 +285,6 @@ look-spec =
     candidate-requires
     mul-own
     slice-read-own
-    units-between-requires
     add-own
     legs-by-requires
     mul-old

@@ -3,8 +3,9 @@ use mathlib.Core.Path.{_≡_}
 use native.Mathlib.Nat.{mod-le, div-le-self}
 use native.Mathlib.Omega.{arith}
 use borrow.Author.Needs.{needs}
-use Rattle.slants.specs.Walk.{forward, cornerOf}
-use Rattle.slants.proofs.inner.Indices.{forward-fits}
+use Rattle.walls.specs.Leg.{forward}
+use Rattle.slants.specs.Walk.{cornerOf}
+use Rattle.walls.proofs.leg.Indices.{forward-fits}
 use Rattle.slants.proofs.inner.corner_of.Statement.{statement}
 use Rattle.slants.proofs.inner.corner_of.Tie as tie
 

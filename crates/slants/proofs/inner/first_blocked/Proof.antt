@@ -215,38 +215,38 @@ loop-less c =
     let (v, i) = k .before .before .before .loop .inv in
     omega (arith, k .if2 .left, i .leg .n-some)
 
+add-beside : tie.Need-add-beside Inv-loop μ-loop Inv-columns μ-columns
+add-beside c =
+    let k = c .before in
+    let (v, i) = there k .loop .inv in
+    omega (arith, sums-small i (free k) (met (k .before)) (goes k) _ _ _ refl refl refl)
+
+sub-beside : tie.Need-sub-beside Inv-loop μ-loop Inv-columns μ-columns
+sub-beside c =
+    let k = c .before .before in
+    let (v, i) = there k .loop .inv in
+    sums-fit i (free k) (met (k .before)) (goes k) _ _ _ refl refl refl .0
+
 add-below : tie.Need-add-below Inv-loop μ-loop Inv-columns μ-columns
-add-below c = let (v, i) = there (c .before) .loop .inv in omega (arith, row-small i)
+add-below c = let (v, i) = there (c .before .before .before) .loop .inv in omega (arith, row-small i)
 
 sub-below : tie.Need-sub-below Inv-loop μ-loop Inv-columns μ-columns
 sub-below c =
-    let k = c .before .before in
+    let k = c .before .before .before .before in
     let (v, i) = there k .loop .inv in
     row-fits i (goes k .1)
 
 add-next : tie.Need-add-next Inv-loop μ-loop Inv-columns μ-columns
 add-next c =
-    let k = c .before .before .before in
+    let k = c .before .before .before .before .before in
     let (v, i) = there k .loop .inv in
     omega (arith, sums-small i (free k) (met (k .before)) (goes k) _ _ _ refl refl refl)
 
 sub-next : tie.Need-sub-next Inv-loop μ-loop Inv-columns μ-columns
 sub-next c =
-    let k = c .before .before .before .before in
-    let (v, i) = there k .loop .inv in
-    sums-fit i (free k) (met (k .before)) (goes k) _ _ _ refl refl refl .1
-
-add-is-pinch : tie.Need-add-is-pinch Inv-loop μ-loop Inv-columns μ-columns
-add-is-pinch c =
-    let k = c .before .before .before .before .before in
-    let (v, i) = there k .loop .inv in
-    omega (arith, sums-small i (free k) (met (k .before)) (goes k) _ _ _ refl refl refl)
-
-sub-is-pinch : tie.Need-sub-is-pinch Inv-loop μ-loop Inv-columns μ-columns
-sub-is-pinch c =
     let k = worked c in
     let (v, i) = there k .loop .inv in
-    sums-fit i (free k) (met (k .before)) (goes k) _ _ _ refl refl refl .0
+    sums-fit i (free k) (met (k .before)) (goes k) _ _ _ refl refl refl .1
 
 is-pinch-requires : tie.Need-is-pinch-requires Inv-loop μ-loop Inv-columns μ-columns
 is-pinch-requires c κs =
@@ -302,12 +302,12 @@ first-blocked-spec =
     sub-cell
     loop-less
     loop-again
+    add-beside
+    sub-beside
     add-below
     sub-below
     add-next
     sub-next
-    add-is-pinch
-    sub-is-pinch
     is-pinch-requires
     add-found
     add-found-2

@@ -17,8 +17,8 @@ few : (s : tie.Start) → sizeOf (s .args .request) ≤ mostVertices
 few s = vertices-most (s .args .request .width) (s .args .request .height) (s .pre .0 .sound .narrow) (s .pre .0 .sound .low)
 
 -- the start, from where its place is to be known and from where it is
-abbrev begun : tie.After-shared-slice-known2 → tie.Start
-begun c = c .before .before .before .before .before .before .before .before
+abbrev begun : tie.After-shared-slice-known3 → tie.Start
+begun c = c .before .before .before .before .before .before .before .before .before
 
 abbrev start : tie.After-spot-of → tie.Start
 start u = begun (u .before)
@@ -41,7 +41,7 @@ close-vertex-requires c κs =
     let u = spotted c .before .before in
     let s = start u in
     let T = s .pre .1 .0 in
-    (taking-sited (s .pre .0) T (u .spot-of .ensures), (taking-number (s .pre .0) T (u .spot-of .ensures), (s .pre .1 .1 .1 .0, s .pre .1 .1 .1 .1)))
+    (taking-sited (s .pre .0) T (u .spot-of .ensures), (taking-number (s .pre .0) T (u .spot-of .ensures), (s .pre .1 .1 .1 .0, s .pre .1 .1 .1 .1 .0)))
 
 -- it has left the open list, from where its round is to be made
 abbrev closed : tie.After-round-arg6 → tie.After-close-vertex
@@ -72,7 +72,7 @@ abbrev marks-left : tie.After-close-vertex → List ℕ
 marks-left o = o .close-vertex .last .1 .1 .1 .1 .1 .1 .1 .1 .0
 
 abbrev left : tie.After-round → State
-left r = let l = r .round .last .1 .1 .1 .1 .1 in state (l .0) (l .1 .0) (l .1 .1 .0) (l .1 .1 .1 .0) 0 (r .round .result)
+left r = let l = r .round .last .1 .1 .1 .1 .1 .1 in state (l .0) (l .1 .0) (l .1 .1 .0) (l .1 .1 .1 .0) 0 (r .round .result)
 
 returns : tie.Need-returns
 returns c =

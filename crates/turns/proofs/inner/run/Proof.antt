@@ -1,7 +1,8 @@
 -- `turns::inner::run` is at a state of the search that gives the whole; the measure is how many vertices are not yet expanded.
 use mathlib.Core.Path.{_≡_, refl, sym, _∙_}
 use mathlib.Core.Logic.{_≢_}
-use Prim.Native.Nat.{_+_, _-_, _≤_}
+use mathlib.Core.List.{List}
+use Prim.Native.Nat.{ℕ, _+_, _-_, _≤_}
 use native.Mathlib.Omega.{arith}
 use lib.ListN.{length}
 use Rattle.board.specs.Limits.{mostVertices}
@@ -18,19 +19,19 @@ use Rattle.turns.proofs.inner.run.Statement.{statement}
 use Rattle.turns.proofs.inner.run.Tie as tie
 
 abbrev Inv-turns : tie.InvT-turns
-Inv-turns cells request g₀ parents₀ marks₀ legs₀ leads₀ keys₀ table goal expansions₀ tests₀ g parents marks legs leads keys expansions tests = Finding cells request (wholeFrom cells request (state g₀ parents₀ marks₀ legs₀ 0 0)) (state g parents marks legs expansions tests) leads keys
+Inv-turns cells guard request g₀ parents₀ marks₀ legs₀ leads₀ keys₀ table goal expansions₀ tests₀ g parents marks legs leads keys expansions tests = Finding cells request (wholeFrom cells request (state g₀ parents₀ marks₀ legs₀ 0 0)) (state g parents marks legs expansions tests) leads keys
     × (length g ≡ length g₀) × (length parents ≡ length parents₀) × (length marks ≡ length marks₀)
     × (length legs ≡ length legs₀) × (length leads ≡ length leads₀) × (length keys ≡ length keys₀)
 
 abbrev μ-turns : tie.MeasureT-turns
-μ-turns cells request g₀ parents₀ marks₀ legs₀ leads₀ keys₀ table goal expansions₀ tests₀ g parents marks legs leads keys expansions tests = sizeOf request - expansions
+μ-turns cells guard request g₀ parents₀ marks₀ legs₀ leads₀ keys₀ table goal expansions₀ tests₀ g parents marks legs leads keys expansions tests = sizeOf request - expansions
 
 few : (s : tie.Start Inv-turns μ-turns) → sizeOf (s .args .request) ≤ mostVertices
 few s = vertices-most (s .args .request .width) (s .args .request .height) (s .pre .0 .sound .narrow) (s .pre .0 .sound .low)
 
 -- the start, from where the goal's number is to be known and from where it is
-abbrev asked-for : tie.After-shared-slice-known2 Inv-turns μ-turns → tie.Start Inv-turns μ-turns
-asked-for c = c .before .before .before .before .before .before .before .before
+abbrev asked-for : tie.After-shared-slice-known3 Inv-turns μ-turns → tie.Start Inv-turns μ-turns
+asked-for c = c .before .before .before .before .before .before .before .before .before
 
 abbrev numbered : tie.After-number-of Inv-turns μ-turns → tie.Start Inv-turns μ-turns
 numbered c = asked-for (c .before)
@@ -119,7 +120,13 @@ expand-requires c κs =
 
 -- what the slices hold then
 abbrev expanded : tie.After-expand Inv-turns μ-turns → State
-expanded o = let l = o .expand .last .1 .1 .1 .1 in state (l .0) (l .1 .0) (l .1 .1 .0) (l .1 .1 .1 .0) 0 (o .expand .result)
+expanded o = let l = o .expand .last .1 .1 .1 .1 .1 in state (l .0) (l .1 .0) (l .1 .1 .0) (l .1 .1 .1 .0) 0 (o .expand .result)
+
+abbrev leads-left : tie.After-expand Inv-turns μ-turns → List ℕ
+leads-left o = o .expand .last .1 .1 .1 .1 .1 .1 .1 .1 .1 .0
+
+abbrev keys-left : tie.After-expand Inv-turns μ-turns → List ℕ
+keys-left o = o .expand .last .1 .1 .1 .1 .1 .1 .1 .1 .1 .1 .0
 
 turns-less : tie.Need-turns-less Inv-turns μ-turns
 turns-less c = omega (arith, more (taken (behind c)))
@@ -129,13 +136,13 @@ turns-again c =
     let o = behind c in
     let k = taken o in
     let l = turn k in (
-      finding-next (start l .pre .0) (l .turns .inv .0) (leader k .first .ensures) (k .before .if1 .left) (not-goal k) {r = expanded o} (o .expand .ensures .0) (o .expand .ensures .1),
-      _∙_ {b = length (l .turns .g)} (o .expand .kept .1 .1 .1 .1 .0) (l .turns .inv .1),
-      _∙_ {b = length (l .turns .parents)} (o .expand .kept .1 .1 .1 .1 .1 .0) (l .turns .inv .2),
-      _∙_ {b = length (l .turns .marks)} (o .expand .kept .1 .1 .1 .1 .1 .1 .0) (l .turns .inv .3),
-      _∙_ {b = length (l .turns .legs)} (o .expand .kept .1 .1 .1 .1 .1 .1 .1 .0) (l .turns .inv .4),
-      _∙_ {b = length (l .turns .leads)} (o .expand .kept .1 .1 .1 .1 .1 .1 .1 .1 .0) (l .turns .inv .5),
-      _∙_ {b = length (l .turns .keys)} (o .expand .kept .1 .1 .1 .1 .1 .1 .1 .1 .1 .0) (l .turns .inv .6),
+      finding-next (start l .pre .0) (l .turns .inv .0) (leader k .first .ensures) (k .before .if1 .left) (not-goal k) {r = expanded o} {leads′ = leads-left o} {keys′ = keys-left o} (o .expand .ensures .0) (o .expand .ensures .1),
+      _∙_ {b = length (l .turns .g)} (o .expand .kept .1 .1 .1 .1 .1 .0) (l .turns .inv .1),
+      _∙_ {b = length (l .turns .parents)} (o .expand .kept .1 .1 .1 .1 .1 .1 .0) (l .turns .inv .2),
+      _∙_ {b = length (l .turns .marks)} (o .expand .kept .1 .1 .1 .1 .1 .1 .1 .0) (l .turns .inv .3),
+      _∙_ {b = length (l .turns .legs)} (o .expand .kept .1 .1 .1 .1 .1 .1 .1 .1 .0) (l .turns .inv .4),
+      _∙_ {b = length (l .turns .leads)} (o .expand .kept .1 .1 .1 .1 .1 .1 .1 .1 .1 .0) (l .turns .inv .5),
+      _∙_ {b = length (l .turns .keys)} (o .expand .kept .1 .1 .1 .1 .1 .1 .1 .1 .1 .1 .0) (l .turns .inv .6),
     )
 
 pub run-spec : {M : Type 1} → statement M

@@ -3,7 +3,8 @@ use Prim.Native.Nat.{_<_}
 use native.Mathlib.Omega.{arith}
 use denote.Ref.{now}
 use Rattle.board.specs.Board.{Board, board}
-use Rattle.walls.proofs.pinch.Around.{inside-at, alike-unpinched, others-decide}
+use Rattle.legs.proofs.Pinches.{inside-at}
+use Rattle.walls.proofs.pinch.Around.{alike-unpinched, others-decide}
 use Rattle.walls.proofs.pinch.is_inner_pinched.Statement.{statement}
 use Rattle.walls.proofs.pinch.is_inner_pinched.Tie as tie
 
