@@ -1,6 +1,7 @@
 #!/bin/sh
 # header.sh: include/wexxolin.h compiles without a warning as C99, C11 and C++17, alone and twice, and the C example with it;
-# header and library have the same version and the same symbols; what was built with another edition of a call does not link.
+# header and library have the same version and the same symbols; the library calls only what the header says; what was built with another
+# edition of a call does not link.
 set -eu
 . "$(dirname "$0")/settings.sh"
 cxx=${CXX:-$(echo "$CC" | sed 's/gcc$/g++/')}
@@ -50,6 +51,12 @@ $RUN "$OUT/version" || { echo "header and library are not of the same version" >
 "$root/tests/editions.py" >"$OUT/declared"
 $(echo "$CC" | sed 's/gcc$/nm/') -g --defined-only $LIBRARY 2>/dev/null | sed -n 's/^.* T \(wexxolin_.*\)/\1/p' | sort >"$OUT/exported"
 diff "$OUT/declared" "$OUT/exported" || { echo "the header declares other symbols than the library exports" >&2; exit 1; }
+
+# It calls nothing of the C library but what the header says.
+if $(echo "$CC" | sed 's/gcc$/nm/') -u $LIBRARY 2>/dev/null | sed -n 's/^ *U //p' | grep -vx -e memset -e memcpy >"$OUT/called"; then
+    echo "the library calls more than memset and memcpy: $(tr '\n' ' ' <"$OUT/called")" >&2
+    exit 1
+fi
 
 # An object of another edition of the route call must not link.
 mkdir -p "$OUT/older"
