@@ -111,7 +111,7 @@ module _ (nw ne sw se : Bool) where
   abbrev asTold : ℕ → Bool
   asTold k = Bool·beq (bit r k) (told cell k)
 
-  pub answer-few : r < 2 ^ 11
+  answer-few : r < 2 ^ 11
   answer-few = ltb-true r (2 ^ 11) (and-left (ltb r (2 ^ 11)) (every 11 asTold) (sixteen nw ne sw se))
 
   first-bits : every 11 asTold ≡ true

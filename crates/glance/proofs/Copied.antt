@@ -10,7 +10,7 @@ use Rattle.board.specs.Limits.{largestSide}
 use Rattle.board.specs.Board.{Board}
 use Rattle.board.specs.Inner.{Sound, OnBoard}
 use Rattle.guard.specs.Guard.{shutAbove, placeOf, Guarded}
-use Rattle.guard.proofs.Blank.{copy-fits}
+use Rattle.guard.proofs.Made.{copy-fits}
 use Rattle.glance.proofs.Cells.{Four}
 
 -- the cell left above (x, y) stands at `placeOf`, and this far on the one left below
@@ -18,8 +18,8 @@ abbrev below : (width x y : ℕ) → ℕ
 below width x y = placeOf width x y + width + 2
 
 -- what the copy has at the four places is the four cells
-abbrev pub Copied : Board → List ℕ → (x y : ℕ) → Type 0
-Copied b guard x y =
+abbrev pub FourThere : Board → List ℕ → (x y : ℕ) → Type 0
+FourThere b guard x y =
     let at = placeOf (b .width) x y in
     let under = below (b .width) x y in
     Four b x y (getD guard at 0) (getD guard (at + 1) 0) (getD guard under 0) (getD guard (under + 1) 0)
@@ -32,7 +32,7 @@ module _ {b : Board} {guard : List ℕ} {x y : ℕ} (g : Guarded b guard) (on : 
   one-copied : (p q k : ℕ) → p ≤ x + 1 → q ≤ y + 1 → k ≡ placeOf (b .width) p q → getD guard k 0 ≡ asNumber (shutAbove b p q)
   one-copied p q k h l e = rw e (g .told p q (omega arith) (omega arith))
 
-  pub four-copied : Copied b guard x y
+  pub four-copied : FourThere b guard x y
   four-copied = record {
     nw-is = one-copied x y (placeOf (b .width) x y) (omega arith) (omega arith) refl;
     ne-is = one-copied (x + 1) y (placeOf (b .width) x y + 1) (omega arith) (omega arith) (omega arith);

@@ -14,7 +14,7 @@ use Rattle.legs.specs.Sight.{rowWall, columnWall, sees}
 use Rattle.legs.proofs.Neighbours.{level-step, upright-step, diagonal-step}
 use Rattle.guard.specs.Guard.{shutAbove}
 use Rattle.glance.specs.Glance.{fourCells, InSight, Glanced}
-use Rattle.glance.proofs.Bits.{answer, hidden, pick, cellOf, told, told-in, place-of, answer-few, answer-bit}
+use Rattle.glance.proofs.Bits.{answer, hidden, pick, cellOf, told, told-in, place-of, answer-bit}
 use Rattle.guard.proofs.Shut.{free-above, shut-cell}
 use Rattle.glance.proofs.Cells.{shut-row, shut-column}
 
@@ -142,7 +142,6 @@ module _ (b : Board) (x y : ℕ) (at : OnBoard b x y) where
   pub glanced : {c : ℕ} → c ≡ fourCells b x y → Glanced b x y (answer c)
   unfolding fourCells
   glanced {c} e = rw e record {
-    few = answer-few nw ne sw se;
     sound = λ k h. told-seen k (sym (answer-bit nw ne sw se k) ∙ h);
     complete = λ k s o. answer-bit nw ne sw se k ∙ seen-told k s o;
   }

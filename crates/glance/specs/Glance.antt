@@ -1,5 +1,5 @@
 -- Which of its neighbours a vertex sees, as bits of a number. No public contract cites it, so nobody need believe this.
-use Prim.Native.Nat.{ℕ, zero, suc, _+_, _*_, _-_, _/_, _%_, _^_, _≤_, _<_}
+use Prim.Native.Nat.{ℕ, zero, suc, _+_, _*_, _-_, _/_, _%_, _≤_, _<_}
 use mathlib.Core.Path.{_≡_}
 use mathlib.Core.Logic.{_≢_}
 use mathlib.Core.Bool.{Bool, true, false, _&&_}
@@ -34,7 +34,8 @@ unfoldable pub fourCells : Board → (x y : ℕ) → ℕ
 fourCells b x y =
     inOne (asNumber (shutAbove b x y)) (asNumber (shutAbove b (x + 1) y)) (asNumber (shutAbove b x (y + 1))) (asNumber (shutAbove b (x + 1) (y + 1)))
 
--- the places round a vertex, row by row and four to a row: the place 4 j + i is i - 1 columns and j - 1 rows on; 5 is the vertex itself
+-- The places round a vertex, row by row and four to a row: the place 4 j + i is i - 1 columns and j - 1 rows on, and 5 its own.
+-- At the place k round (x, y) there is a vertex of the board, and (x, y) sees it.
 pub record InSight (b : Board) (x y k : ℕ) : Type 0 where
   pub column-in : k % 4 ≤ 2
   pub row-in : k / 4 ≤ 2
@@ -45,6 +46,5 @@ pub record InSight (b : Board) (x y k : ℕ) : Type 0 where
 
 -- a bit of r for each place whose vertex (x, y) sees, but its own
 pub record Glanced (b : Board) (x y r : ℕ) : Type 0 where
-  pub few : r < 2 ^ 11
   pub sound : (k : ℕ) → bit r k ≡ true → InSight b x y k
   pub complete : (k : ℕ) → InSight b x y k → k ≢ 5 → bit r k ≡ true

@@ -1,3 +1,3 @@
-pub mod Blank
+pub mod Made
 pub mod Copying
 pub mod Shut

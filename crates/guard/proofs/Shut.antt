@@ -1,4 +1,4 @@
--- The rows of a board in a blank copy, and then a bit for each entry, are its guarded copy. Assumes nothing.
+-- The rows of a board in a copy of blocked cells alone, and then a bit for each entry, are its guarded copy. Assumes nothing.
 use Prim.Native.Nat.{ℕ, zero, suc, _+_, _*_, _-_, _≤_, _<_}
 use mathlib.Core.Path.{_≡_, refl, sym, ap, _∙_}
 use mathlib.Core.Logic.{⊎-elim}
@@ -14,7 +14,7 @@ use Rattle.laws.proofs.Tests.{order, bool-cases, or-neither}
 use Rattle.laws.specs.Below.{asNumber}
 use Rattle.board.specs.Board.{Board, blocked}
 use Rattle.board.proofs.Cells.{byte-is, free-cell}
-use Rattle.guard.specs.Guard.{shutAbove, placeOf, Blank, Guarded}
+use Rattle.guard.specs.Guard.{shutAbove, placeOf, AllShut, Guarded}
 use Rattle.guard.specs.Copying.{Inside, Rows, Bits}
 
 module _ (b : Board) where
@@ -41,7 +41,7 @@ module _ (b : Board) where
   shut-cell i j e f =
       rw (e, f, ne-eqb (i + 1) 0 (λ h. omega arith), ne-eqb (j + 1) 0 (λ h. omega arith), add-sub-cancel i 1, add-sub-cancel j 1)
 
-  module _ {blank mid after : List ℕ} (k : Blank b blank) (r : Rows (b .cells) (b .width) (b .height) blank mid)
+  module _ {begun mid after : List ℕ} (k : AllShut b begun) (r : Rows (b .cells) (b .width) (b .height) begun mid)
       (t : Bits ((b .width + 2) * (b .height + 2)) mid after) where
     -- a place of the copy is one of the entries that become bits
     within : (x y : ℕ) → x ≤ b .width + 1 → y ≤ b .height + 1 → placeOf (b .width) x y < (b .width + 2) * (b .height + 2)

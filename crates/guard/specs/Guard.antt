@@ -18,7 +18,7 @@ abbrev pub placeOf : (width x y : ℕ) → ℕ
 placeOf width x y = y * (width + 2) + x
 
 -- blocked cells alone, as many as the copy needs
-pub record Blank (b : Board) (guard : List ℕ) : Type 0 where
+pub record AllShut (b : Board) (guard : List ℕ) : Type 0 where
   pub room : (b .width + 2) * (b .height + 2) ≤ length guard
   pub ones : (k : ℕ) → k < length guard → getD guard k 0 ≡ 1
 

@@ -3,13 +3,13 @@ ghost use Prim.Native.Nat.{_+_, _*_, _≤_};
 ghost use lib.ListN.{length};
 ghost use Rattle.board.specs.Board.{board};
 ghost use Rattle.board.specs.Inner.{Sound};
-ghost use Rattle.guard.specs.Guard.{placeOf, Blank, Guarded};
+ghost use Rattle.guard.specs.Guard.{placeOf, AllShut, Guarded};
 ghost use Rattle.guard.specs.Copying.{Copied, Rows, Bits};
 
 // The guarded copy. The rows are copied as they are, which is fast, and then each byte that is not 1 is made 0.
 pub fn guard_cells(cells: &[u8], width: usize, height: usize, guard: &mut [u8])
     requires { ⌜ Sound (board (now cells) width height) ⌝ }
-    requires { ⌜ Blank (board (now cells) width height) (now guard) ⌝ }
+    requires { ⌜ AllShut (board (now cells) width height) (now guard) ⌝ }
     ensures { λ r. ⌜ Guarded (board (now (cells .entry)) width height) (now (guard .exit)) ⌝ }
 {
     copy_rows(cells, width, height, guard);

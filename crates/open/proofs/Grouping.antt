@@ -69,7 +69,6 @@ module _ (width height : ℕ) where
           let l = T .room-l in
           let k = T .room-k in
           record {
-            some = omega (arith, leaves-positive);
             few = leaf-small x y a b;
             room-l = omega arith;
             room-k = omega arith;
@@ -78,7 +77,7 @@ module _ (width height : ℕ) where
       pub root-room : Room 1 leads keys
       root-room =
           let p = leaves-positive in
-          record { some = omega arith; few = omega arith; room-l = omega (arith, T .room-l); room-k = omega (arith, T .room-k) }
+          record { few = omega arith; room-l = omega (arith, T .room-l); room-k = omega (arith, T .room-k) }
 
   module _ (x y : ℕ) (a : x ≤ width) (b : y ≤ height) where
     -- a vertex of the leaf is one of the strip

@@ -11,7 +11,6 @@ use Rattle.tournament.specs.Tournament.{Groups, Planted, ofLeaf, Tournam
 
 -- there is a place for the leaf and its sibling, and so for every node above
 pub record Room (leaf : ℕ) (leads keys : List ℕ) : Type 0 where
-  pub some : 0 < leaf
   pub few : leaf < 2 ^ 60
   pub room-l : leaf / 2 * 2 + 1 < length leads
   pub room-k : leaf / 2 * 2 + 1 < length keys

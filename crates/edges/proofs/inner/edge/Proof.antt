@@ -1,4 +1,4 @@
--- `sight::edges::edge` is the definition's edge.
+-- `edges::inner::edge` is the definition's edge.
 use Rattle.legs.specs.Stops.{edgeFrom}
 use Rattle.edges.proofs.inner.edge.Statement.{statement}
 use Rattle.edges.proofs.inner.edge.Tie as tie

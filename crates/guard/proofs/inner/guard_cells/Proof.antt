@@ -1,4 +1,4 @@
--- `guard::inner::guard_cells` copies the rows into the blank copy, and then makes bits.
+-- `guard::inner::guard_cells` copies the rows into the copy, and then makes bits.
 use borrow.Author.Needs.{needs}
 use denote.Ref.{now}
 use Rattle.board.specs.Board.{board}

@@ -10,7 +10,7 @@ use Rattle.board.proofs.Numbers.{number-below}
 use Rattle.clearing.specs.Clearing.{Cleared}
 use Rattle.open.specs.Groups.{perRow}
 use Rattle.open.proofs.Grouping.{nodes-fit}
-use Rattle.guard.proofs.Blank as guard
+use Rattle.guard.proofs.Made.{all-shut-made, copy-fits}
 use Rattle.open.proofs.Listing.{blank-made}
 use Rattle.theta.specs.Search.{State}
 use Rattle.theta.specs.Lent.{state, Begun}
@@ -47,7 +47,7 @@ abbrev start : tie.After-number-of → tie.Start
 start n = begins (copied n .before)
 
 guard-cells-requires : tie.Need-guard-cells-requires
-guard-cells-requires c κs = let A = begins c .pre .0 in (A .sound, guard.blank-made ((largestSide + 2) * (largestSide + 2)) (guard.copy-fits (A .sound)))
+guard-cells-requires c κs = let A = begins c .pre .0 in (A .sound, all-shut-made ((largestSide + 2) * (largestSide + 2)) (copy-fits (A .sound)))
 
 number-of-requires : tie.Need-number-of-requires
 number-of-requires c κs = let A = begins (c .before .before) .pre .0 in omega (arith, A .sound .narrow, A .start, A .sound .low)

@@ -1,4 +1,4 @@
--- `slants::inner::first_blocked` finds what stops a slanted leg: each need is a law of proofs/walk/ at the place's numbers.
+-- `slants::inner::first_blocked` finds what stops a slanted leg: each need is a law of proofs/inner/ at the place's numbers.
 -- Invariants: no column passed stops the leg, and in this column no cell passed. Measures: the columns left; what the row lacks to the column's end.
 use Prim.Native.Nat.{ℕ, _+_, _-_, _<_}
 use mathlib.Core.Path.{_≡_, refl, sym, _∙_}

@@ -1,4 +1,4 @@
--- `sight::leg::cell` is the definition's cell.
+-- `walls::leg::cell` is the definition's cell.
 use borrow.Author.Needs.{needs}
 use borrow.Author.Tests.{lt-ltb, le-ltb}
 use Rattle.legs.specs.Leg.{cellAt}

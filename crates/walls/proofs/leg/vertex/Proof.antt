@@ -1,4 +1,4 @@
--- `sight::leg::vertex` is the definition's vertex.
+-- `walls::leg::vertex` is the definition's vertex.
 use borrow.Author.Needs.{needs}
 use borrow.Author.Tests.{lt-ltb, le-ltb}
 use Rattle.legs.specs.Leg.{vertexAt}

@@ -6,11 +6,11 @@ use lib.ListN.{replicate, length-replicate, getD-replicate}
 use Rattle.board.specs.Limits.{largestSide}
 use Rattle.board.specs.Board.{Board}
 use Rattle.board.specs.Inner.{Sound}
-use Rattle.guard.specs.Guard.{Blank}
+use Rattle.guard.specs.Guard.{AllShut}
 
 -- so many are enough
-pub blank-made : {b : Board} (n : ℕ) → (b .width + 2) * (b .height + 2) ≤ n → Blank b (replicate n 1)
-blank-made n room = record {
+pub all-shut-made : {b : Board} (n : ℕ) → (b .width + 2) * (b .height + 2) ≤ n → AllShut b (replicate n 1)
+all-shut-made n room = record {
   room = rw length-replicate room;
   ones = λ k h. getD-replicate n k 1 0 (rw length-replicate at h);
 }
