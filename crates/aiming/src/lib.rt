@@ -1,4 +1,6 @@
 // What C gets of direction, as include/wexxolin.h declares it.
+#![tactic(auto)]
+
 pub mod inner;
 
 // The direction of a leg.

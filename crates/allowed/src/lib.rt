@@ -1,2 +1,4 @@
 // Which legs a given path may have.
+#![tactic(auto)]
+
 pub mod inner;

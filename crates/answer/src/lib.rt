@@ -1,4 +1,6 @@
 // The route call's answer.
+#![tactic(auto)]
+
 use board::Refusal;
 
 pub mod inner;

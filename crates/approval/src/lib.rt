@@ -1,4 +1,6 @@
 // What C gets of the check of the bureau's routes, as include/wexxolin.h declares it.
+#![tactic(auto)]
+
 pub mod inner;
 
 // How many nets are right, or what is refused.

@@ -1,4 +1,6 @@
 // The check of the layout bureau's routes: every net of a job beside the records that the bureau gives for it.
+#![tactic(auto)]
+
 ghost use Rattle.bureau.specs.Answers.{slices, Checked};
 ghost use Rattle.approve.specs.Inner.{BothPassed};
 

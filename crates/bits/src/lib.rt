@@ -1,2 +1,4 @@
 // The bits of a packed board: the row rule, and one byte at a time.
+#![tactic(auto)]
+
 pub mod inner;

@@ -1,4 +1,6 @@
 // The board: its largest side, its vertices' numbers, and the checks that every call makes first.
+#![tactic(auto)]
+
 ghost use Rattle.std.specs.Prelude.{◌≡◌, ltb, length};
 ghost use Rattle.board.specs.Limits.{largest_side, most_vertices};
 ghost use Rattle.board.specs.Board.{board};

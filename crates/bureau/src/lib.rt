@@ -1,4 +1,6 @@
 // The layout bureau's routes: what the check of them answers.
+#![tactic(auto)]
+
 ghost use Rattle.std.specs.Prelude.{◌≡◌, false};
 ghost use Rattle.board.specs.Handed.{judged};
 ghost use Rattle.bureau.specs.Answers.{no_nets, handed_check, is_jobs};

@@ -1,2 +1,4 @@
 // The lent slices are cleared before a search.
+#![tactic(auto)]
+
 pub mod inner;

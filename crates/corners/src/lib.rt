@@ -1,4 +1,6 @@
 // A path's vertex numbers as points: the x and y of each vertex, as route files have them.
+#![tactic(auto)]
+
 ghost use Rattle.std.specs.Prelude.{◌≡◌, false, ◌++◌, ◌≤◌, length, drop};
 ghost use Rattle.board.specs.Limits.{largest_side};
 ghost use Rattle.corners.specs.Corners.{columns, rows, has_off, said_points, PointsTold};

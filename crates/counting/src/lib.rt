@@ -1,4 +1,6 @@
 // What C gets of the count of blocked cells, as include/wexxolin.h declares it.
+#![tactic(auto)]
+
 pub mod inner;
 
 // How many cells are blocked.

@@ -1,4 +1,6 @@
 // The direction of a leg: its two differences over its length.
+#![tactic(auto)]
+
 ghost use Rattle.std.specs.Prelude.{◌≡◌, ◌^◌, ◌≤◌, ◌<◌, nat_abs};
 ghost use Rattle.board.specs.Limits.{largest_side};
 ghost use Rattle.direction.specs.Answers.{quotient, handed_direction, aim_row, direction_row, direction_between_row};

@@ -1,4 +1,6 @@
 // The middle and the large table of lengths: constants, each entry proved.
+#![tactic(auto)]
+
 ghost use Rattle.table.specs.Lengths.{squares, middle_side, sums_of, Known};
 
 use crate::units::{LARGE_UNITS, MIDDLE_UNITS};

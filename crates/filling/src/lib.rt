@@ -1,4 +1,6 @@
 // The checks of packed bytes: their number, and that each row is filled up to a whole byte with zero bits.
+#![tactic(auto)]
+
 ghost use Rattle.std.specs.Prelude.{◌≡◌};
 ghost use Rattle.board.specs.Handed.{number_in, place_in};
 ghost use Rattle.bits.specs.Packed.{first_filling};

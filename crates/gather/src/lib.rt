@@ -1,2 +1,4 @@
 // The routes of a file, gathered from its records into slices.
+#![tactic(auto)]
+
 pub mod inner;

@@ -1,2 +1,4 @@
 // The guarded copy of a board's cells, which has a line of blocked cells all round it.
+#![tactic(auto)]
+
 pub mod inner;

@@ -1,4 +1,6 @@
 // The job reader: the board and the nets of a job that the check accepts are taken out.
+#![tactic(auto)]
+
 ghost use Rattle.std.specs.Prelude.{◌≡◌};
 ghost use Rattle.job.specs.Answers.{handed_board, handed_net, BoardRead, net_row};
 

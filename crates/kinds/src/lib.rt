@@ -1,4 +1,6 @@
 // The kinds of a job's records: a board, a keepout or a net, by the type in byte 0.
+#![tactic(auto)]
+
 pub mod inner;
 
 // The types, as byte 0 of a record gives them.

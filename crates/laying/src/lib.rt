@@ -1,2 +1,4 @@
 // The records of routes, laid into a slice net after net.
+#![tactic(auto)]
+
 pub mod inner;

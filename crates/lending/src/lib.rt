@@ -1,4 +1,6 @@
 // The slices that are lent to the check of the bureau's routes: whether they are long enough.
+#![tactic(auto)]
+
 ghost use Rattle.std.specs.Prelude.{◌≡◌, false};
 ghost use Rattle.board.specs.Handed.{judged};
 ghost use Rattle.bureau.specs.Answers.{no_nets, handed_check, is_jobs};

@@ -1,4 +1,6 @@
 // The length of a leg, in whole units and in cells.
+#![tactic(auto)]
+
 ghost use Rattle.std.specs.Prelude.{◌≡◌};
 ghost use Rattle.length.specs.Units.{units_per_cell};
 ghost use Rattle.length.specs.Floats.{in_cells};

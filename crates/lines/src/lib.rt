@@ -1,4 +1,6 @@
 // The lines that the route program prints, as bytes.
+#![tactic(auto)]
+
 ghost use Rattle.std.specs.Prelude.{◌≡◌};
 ghost use Rattle.board.specs.Limits.{largest_side};
 ghost use Rattle.lines.specs.Lines.{longest_line};

@@ -1,2 +1,4 @@
 // One neighbour of a taken vertex is looked at.
+#![tactic(auto)]
+
 pub mod inner;

@@ -1,4 +1,6 @@
 // What C gets of length, as include/wexxolin.h declares it.
+#![tactic(auto)]
+
 pub mod inner;
 
 // The length of a leg, in units and in cells.

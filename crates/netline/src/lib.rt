@@ -1,2 +1,4 @@
 // The line of a net with a path.
+#![tactic(auto)]
+
 pub mod inner;

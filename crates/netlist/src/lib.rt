@@ -1,2 +1,4 @@
 // The nets of a job by their index.
+#![tactic(auto)]
+
 pub mod inner;

@@ -1,4 +1,6 @@
 // The route of a job's net, in buffers of the route program's own.
+#![tactic(auto)]
+
 ghost use Rattle.std.specs.Prelude.{◌≡◌};
 ghost use Rattle.netroute.specs.Limits.{vertex_room};
 

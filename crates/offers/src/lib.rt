@@ -1,4 +1,6 @@
 // What a neighbour of a taken vertex is offered, and how it takes it.
+#![tactic(auto)]
+
 pub mod inner;
 
 // What is asked: the board's sides, the start and the goal.

@@ -1,4 +1,6 @@
 // Packed boards from the camera: one bit per cell, high bit first, each row filled up to a whole byte with zero bits.
+#![tactic(auto)]
+
 ghost use Rattle.std.specs.Prelude.{◌≡◌};
 ghost use Rattle.board.specs.Board.{board};
 ghost use Rattle.packed.specs.Answers.{CellsRead, said_read};

@@ -1,4 +1,6 @@
 // What C gets of a packed board that is read or written, as include/wexxolin.h declares it.
+#![tactic(auto)]
+
 pub mod inner;
 
 // What is said of a board read or written: it has no value.

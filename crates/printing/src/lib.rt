@@ -1,4 +1,6 @@
 // What C gets of the line call, as include/wexxolin.h declares it.
+#![tactic(auto)]
+
 pub mod inner;
 
 // How many bytes the line has that was written.

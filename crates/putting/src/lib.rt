@@ -1,2 +1,4 @@
 // Bytes put into a slice piece by piece.
+#![tactic(auto)]
+
 pub mod inner;

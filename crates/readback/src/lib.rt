@@ -1,4 +1,6 @@
 // The reader of route files: records into slices of net numbers, counts of points, and the points' x and y.
+#![tactic(auto)]
+
 ghost use Rattle.tracks.specs.Layout.{slices};
 ghost use Rattle.tracks.specs.Answers.{handed_read, RoutesRead};
 

@@ -1,4 +1,6 @@
 // What C gets of a job's board and of its nets, as include/wexxolin.h declares it.
+#![tactic(auto)]
+
 pub mod inner;
 
 // A job's board.

@@ -1,4 +1,6 @@
 // What C gets of a route file that is written, and of a path turned into points, as include/wexxolin.h declares it.
+#![tactic(auto)]
+
 pub mod inner;
 
 // How many records were written.

@@ -1,4 +1,6 @@
 // The refusals of a job: each with its number of the table, and where in the job it is.
+#![tactic(auto)]
+
 ghost use Rattle.std.specs.Prelude.{◌≡◌};
 ghost use Rattle.board.specs.Handed.{number_in, place_in, second_in};
 ghost use Rattle.refusals.specs.Refusals.{refusal_row};

@@ -1,2 +1,4 @@
 // The whole square root of a word.
+#![tactic(auto)]
+
 pub mod inner;

@@ -1,4 +1,6 @@
 // The route program: a job on standard input, a line for each net on standard output.
+#![tactic(auto)]
+
 ghost use Rattle.std.specs.Prelude.{◌≡◌};
 ghost use Rattle.netroute.specs.Limits.{cell_room, line_room};
 ghost use Rattle.replies.specs.Inner.{AllSent};

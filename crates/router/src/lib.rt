@@ -1,4 +1,6 @@
 // The route call: the checks, then the search and its answer.
+#![tactic(auto)]
+
 ghost use Rattle.board.specs.Board.{board};
 ghost use Rattle.answer.specs.Answers.{handed_route, slices, Routed};
 

@@ -1,4 +1,6 @@
 // What C gets of a route, as include/wexxolin.h declares it.
+#![tactic(auto)]
+
 pub mod inner;
 
 // A route.

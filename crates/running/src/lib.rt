@@ -1,2 +1,4 @@
 // The search of a request that has passed the checks, and its answer.
+#![tactic(auto)]
+
 pub mod inner;

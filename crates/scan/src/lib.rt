@@ -1,4 +1,6 @@
 // One record of a route file, judged by what was read before it.
+#![tactic(auto)]
+
 use tracks::RouteRefusal;
 
 pub mod inner;

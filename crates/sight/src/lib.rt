@@ -1,4 +1,6 @@
 // Line of sight between two vertices of a board.
+#![tactic(auto)]
+
 ghost use Rattle.std.specs.Prelude.{◌≡◌};
 ghost use Rattle.board.specs.Board.{board};
 ghost use Rattle.board.specs.Handed.{answer};

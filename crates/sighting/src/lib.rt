@@ -1,4 +1,6 @@
 // What C gets of sight, as include/wexxolin.h declares it.
+#![tactic(auto)]
+
 pub mod inner;
 
 // Does a leg have sight, 1 or 0, and what stops it first: nothing (kind 0), a cell (1), an edge, its nearer vertex first (2), or a

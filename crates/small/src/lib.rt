@@ -1,4 +1,6 @@
 // The small table of lengths: a constant, each entry proved.
+#![tactic(auto)]
+
 ghost use Rattle.table.specs.Lengths.{small_side, sums_of, Known};
 
 use crate::units::SMALL_UNITS;

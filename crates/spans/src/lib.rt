@@ -1,4 +1,6 @@
 // A leg without a board, by its differences or by its vertices.
+#![tactic(auto)]
+
 ghost use Rattle.std.specs.Prelude.{◌≡◌};
 ghost use Rattle.board.specs.Handed.{verdict};
 ghost use Rattle.spans.specs.Legs.{difference_rows, vertex_rows};

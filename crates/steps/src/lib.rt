@@ -1,4 +1,6 @@
 // One record after those before it: what was read so far, and whether to go on.
+#![tactic(auto)]
+
 ghost use Rattle.std.specs.Prelude.{◌≡◌};
 ghost use Rattle.steps.specs.Steps.{why_of};
 

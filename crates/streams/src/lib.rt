@@ -1,5 +1,7 @@
 // The route program's standard input and output: a read or a write is tried again while the system only puts off, and what is lost is
 // said on standard error.
+#![tactic(auto)]
+
 ghost use Rattle.std.specs.Prelude.{◌≡◌, true, length, ◌+◌, ◌≤◌, ◌<◌};
 ghost use Rattle.streams.specs.Tries.{most_tries};
 

@@ -1,4 +1,6 @@
 // The lengths of legs, from a table: a root is dear, and the same squares come again and again. Its entries are in `entries`.
+#![tactic(auto)]
+
 pub mod inner;
 
 // The sides up to which a board has all its lengths in the small and in the middle table.

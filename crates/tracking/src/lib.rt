@@ -1,4 +1,6 @@
 // What C gets of a route file that is read, as include/wexxolin.h declares it.
+#![tactic(auto)]
+
 pub mod inner;
 
 // How many nets and points were read.

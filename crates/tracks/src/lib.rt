@@ -1,4 +1,6 @@
 // Route files: what they say, why they are refused, and what their reader and their writer answer.
+#![tactic(auto)]
+
 ghost use Rattle.std.specs.Prelude.{◌≡◌};
 ghost use Rattle.board.specs.Handed.{number_in, place_in, second_in};
 ghost use Rattle.tracks.specs.Faults.{refusal_row};

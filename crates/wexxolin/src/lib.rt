@@ -1,5 +1,7 @@
 // The calls for C, as include/wexxolin.h declares them. Each passes its parameters on to a call for C below, which tells what a call
 // answers; the route and the check do so here, since to prove that many slices are passed on takes seconds each time.
+#![tactic(auto)]
+
 ghost use Rattle.std.specs.Prelude.{◌≡◌};
 ghost use Rattle.board.specs.Board.{board};
 ghost use Rattle.direction.specs.Answers.{direction_row, direction_between_row};

@@ -1,4 +1,6 @@
 // Runs document 01's worked rows; what it prints is compared with the file stdout.
+#![tactic(auto)]
+
 use board::{MOST, Vertex};
 use length::{Length, Measured};
 use router::route;

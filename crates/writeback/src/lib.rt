@@ -1,4 +1,6 @@
 // The writer of route files: slices of net numbers, counts of points, and the points' x and y into records.
+#![tactic(auto)]
+
 ghost use Rattle.tracks.specs.Layout.{slices};
 ghost use Rattle.tracks.specs.Answers.{handed_write, RoutesWritten};
 

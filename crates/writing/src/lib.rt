@@ -1,4 +1,6 @@
 // The lines that the route program prints, written into a lent slice.
+#![tactic(auto)]
+
 ghost use Rattle.lines.specs.Answers.{bytes_of, handed_line, LineWritten};
 
 use board::Vertex;
