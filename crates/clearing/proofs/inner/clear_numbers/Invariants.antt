@@ -1,0 +1,11 @@
+-- `clearing::inner::clear_numbers` has written as many zeros as it has come by.
+use Prim.Native.Nat.{◌-◌}
+use native.Mathlib.Omega.{arith}
+use Rattle.clearing.proofs.inner.Filled.{Filled, filled_none, filled_more, filled_all}
+use Rattle.clearing.proofs.inner.clear_numbers.Given as goal
+
+abbrev pub invariant-loop-v : goal.invariant-loop-v
+invariant-loop-v l = Filled l.n l.v l.initial.entries l.entries
+
+abbrev pub decreases-loop-v : goal.decreases-loop-v
+decreases-loop-v l = l.n - l.v

@@ -1,0 +1,7 @@
+use borrow.Author.Rules.{rules}
+use Rattle.records.specs.Records.{byte}
+use Rattle.records.proofs.inner.byte_of.Goals as goal
+
+pub returns : goal.returns
+unfolding byte
+returns c = c.wide.ensures
