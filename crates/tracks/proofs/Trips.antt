@@ -1,6 +1,6 @@
 -- Both ways back, of the definitions: the file of the routes in a file, and the routes in the file of routes. Assumes nothing.
 use Prim.Native.Nat.{ℕ, zero, suc, ◌+◌, ◌*◌, ◌-◌, ◌%◌, ◌≤◌, ◌<◌}
-use mathlib.Core.Path.{◌≡◌, refl, sym, ap, ap₂, ◌∙◌}
+use mathlib.Core.Path.{◌≡◌, refl, sym, ap, ap₂, subst, ◌∙◌}
 use mathlib.Core.Logic.{◌⊎◌, inl, inr, ⊎_elim}
 use mathlib.Core.Bool.{Bool, true, false, not, ◌&&◌, ◌||◌, true≢false}
 use mathlib.Core.List.{List, [], ◌∷◌, ◌++◌}
@@ -181,8 +181,10 @@ module _ (file : List ℕ) (all : in_order (records file) (record_rows file) ≡
   joined m i l p s t u r =
       let h = point_leads file m (suc i) t in
       let this = point_joins file (suc m) i p h.led (eq-eqb (net_of file i) (net_of file (suc i)) s) in
+      let P : ℕ → Type 0 = λ n. file_from (suc (place_of file i)) (route n (point_of file (suc i) ∷ h.more) ∷ h.others) ≡ drop (suc i * 8) file in
+      let rest : P (net_of file i) = subst P (sym s) (rw (h.led, u) at r) in
       rw this
-      (ap (λ (t : List ℕ). point_record (net_of file i) (place_of file i) (point_of file i) ++ t) (rw (h.led, u, sym s) at r)
+      (ap (λ (t : List ℕ). point_record (net_of file i) (place_of file i) (point_of file i) ++ t) rest
       ∙ cut i l (point_bytes file i (ok file all i l) bytes p))
 
   point_by : (m i : ℕ) → i < records file → is_point file i ≡ true → i + suc (suc m) ≡ records file → After file i → Holds (suc m) (suc i)

@@ -1,0 +1,10 @@
+use Prim.Native.Nat.{◌+◌, ◌*◌, ◌/◌, ◌<◌}
+use native.Mathlib.Omega.{arith}
+use borrow.Author.Rules.{rules}
+use lib.ListN.{length}
+use Rattle.bits.specs.Packed.{bit_at, bit_of}
+use Rattle.bits.proofs.inner.bit_of.Goals as goal
+
+pub returns : goal.returns
+unfolding bit_of bit_at
+returns c = rw c.row_bytes-row.ensures

@@ -1,0 +1,21 @@
+-- `corners::tell_points` writes point after point. The loop's invariant: those before are written.
+use mathlib.Core.Path.{◌≡◌, refl, ap, ◌∙◌}
+use mathlib.Core.List.{◌++◌}
+use Prim.Native.Nat.{ℕ, ◌-◌, ◌≤◌, ◌<◌}
+use native.Mathlib.Omega.{arith}
+use borrow.Author.Rules.{rules}
+use lib.ListN.{length, get_or, drop}
+use Rattle.board.specs.Board.{column_of, row_of}
+use Rattle.board.proofs.Numbers.{column_on}
+use Rattle.bits.specs.Packed.{entries}
+use Rattle.bits.proofs.Entries.{entries_none, kept_length, written_next}
+use Rattle.corners.proofs.Points.{is_on_lem}
+use Rattle.corners.proofs.tell_points.Given as goal
+
+abbrev pub invariant-loop-k : goal.invariant-loop-k
+invariant-loop-k l =
+    (l.k ≤ l.k-end) × (l.k-end ≡ length l.path) × (l.xs ≡ entries l.k (λ (n : ℕ). column_of l.width (get_or l.path n 0)) ++ drop l.k l.initial.xs)
+    × (l.ys ≡ entries l.k (λ (n : ℕ). row_of l.width (get_or l.path n 0)) ++ drop l.k l.initial.ys)
+
+abbrev pub decreases-loop-k : goal.decreases-loop-k
+decreases-loop-k l = l.k-end - l.k

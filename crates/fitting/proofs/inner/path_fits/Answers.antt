@@ -1,0 +1,26 @@
+use Prim.Native.Nat.{ℕ, ◌+◌, ◌-◌, ◌≤◌, ◌<◌}
+use mathlib.Core.Path.{◌≡◌, sym, ap}
+use mathlib.Core.List.{List}
+use native.Mathlib.Omega.{arith}
+use borrow.Author.Tests.{le-leb, lt-leb}
+use lib.ListN.{length, take}
+use lib.Seq.{take_all}
+use Rattle.lines.specs.Lines.{spaced, vertex_fields}
+use Rattle.lines.proofs.Fields.{more_count, within_count}
+use borrow.Author.Rules.{rules}
+use Rattle.fitting.proofs.inner.path_fits.Goals as goal
+
+pub returns-then-left-bytes : goal.returns-then-left-bytes
+returns-then-left-bytes c =
+    let a = c.args in
+    let l = c.loop-i in
+    let all : ℕ = length (spaced (vertex_fields a.width a.path.now)) in
+    let within = within_count a.width a.path.now l.i (omega arith) in
+    sym (lt-leb (a.words + all) a.room (omega (arith, within, c.count_vertex-bytes.ensures.count, l.invariant.0)))
+
+pub loop-i-preserved : goal.loop-i-preserved
+loop-i-preserved c =
+    let a = c.args in
+    let l = c.loop-i in
+    let more = more_count a.width a.path.now l.i (omega arith) in
+    (omega (arith, more, c.count_vertex-bytes.ensures.count, l.invariant.0), omega arith)

@@ -1,0 +1,18 @@
+-- `fitting::inner::path_fits`: the bytes given, those of the vertices so far and what is left make up the room.
+use Prim.Native.Nat.{ℕ, ◌+◌, ◌-◌, ◌≤◌, ◌<◌}
+use mathlib.Core.Path.{◌≡◌, sym, ap}
+use mathlib.Core.List.{List}
+use native.Mathlib.Omega.{arith}
+use borrow.Author.Tests.{le-leb, lt-leb}
+use lib.ListN.{length, take}
+use lib.Seq.{take_all}
+use Rattle.lines.specs.Lines.{spaced, vertex_fields}
+use Rattle.lines.proofs.Fields.{more_count, within_count}
+use borrow.Author.Rules.{rules}
+use Rattle.fitting.proofs.inner.path_fits.Given as goal
+
+abbrev pub invariant-loop-i : goal.invariant-loop-i
+invariant-loop-i l = (l.words + length (spaced (vertex_fields l.width (take l.i l.path))) + l.left ≡ l.room) × (l.i ≤ length l.path)
+
+abbrev pub decreases-loop-i : goal.decreases-loop-i
+decreases-loop-i l = length l.path - l.i

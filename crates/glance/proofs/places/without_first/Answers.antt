@@ -1,0 +1,6 @@
+use borrow.Author.Rules.{rules}
+use Rattle.glance.proofs.places.Lowest.{without_is}
+use Rattle.glance.proofs.places.without_first.Goals as goal
+
+pub returns : goal.returns
+returns c = without_is c.args.left c.requires

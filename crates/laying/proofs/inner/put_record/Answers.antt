@@ -1,0 +1,8 @@
+use native.Mathlib.Omega.{arith}
+use borrow.Author.Rules.{rules}
+use lib.ListN.{length-set}
+use Rattle.laying.proofs.Written.{eight_set}
+use Rattle.laying.proofs.inner.put_record.Goals as goal
+
+pub returns : goal.returns
+returns c = eight_set _ _ _ _ _ _ _ _ _ _ c.requires

@@ -1,0 +1,16 @@
+-- `painting::inner::paint` blocks a rectangle row by row. The loop's invariant: the rows above are painted.
+use mathlib.Core.Path.{◌≡◌}
+use Prim.Native.Nat.{◌+◌, ◌*◌, ◌-◌, ◌≤◌}
+use native.Mathlib.Nat.{mul-le-mul_right}
+use native.Mathlib.Omega.{arith}
+use lib.ListN.{length}
+use Rattle.kinds.specs.Job.{inside}
+use Rattle.painting.specs.Cells.{Filled, Painted}
+use Rattle.painting.proofs.Painting.{lines_none, lines_more}
+use Rattle.painting.proofs.inner.paint.Given as goal
+
+abbrev pub invariant-loop-y : goal.invariant-loop-y
+invariant-loop-y l = (l.top ≤ l.y) × (l.y ≤ l.bottom) × Painted l.width (inside l.left l.top l.right l.y) l.initial.board l.board
+
+abbrev pub decreases-loop-y : goal.decreases-loop-y
+decreases-loop-y l = l.bottom - l.y
