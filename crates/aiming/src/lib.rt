@@ -5,7 +5,7 @@ pub mod inner;
 
 // The direction of a leg.
 #[repr(C)]
-#[derive(Drop)]
+#[derive(Clone, Copy)]
 pub struct Toward {
     pub number: u64,
     pub place: u64,

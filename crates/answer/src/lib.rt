@@ -6,7 +6,7 @@ use board::Refusal;
 pub mod inner;
 
 // A route, or why there is none: document 01's 0, 8, and 1 to 7.
-#[derive(Drop)]
+#[derive(Clone, Copy)]
 pub enum Answer {
     // The length in cells and in units, the number of the path's vertices and of its legs, and both counts.
     Found {

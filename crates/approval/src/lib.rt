@@ -5,7 +5,7 @@ pub mod inner;
 
 // How many nets are right, or what is refused.
 #[repr(C)]
-#[derive(Drop)]
+#[derive(Clone, Copy)]
 pub struct Approval {
     pub number: u64,
     pub place: u64,

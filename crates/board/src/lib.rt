@@ -23,7 +23,7 @@ pub const LINE: usize = SIDE + 1;
 pub const MOST: usize = LINE * LINE;
 
 // Why the checks refuse a request: document 01's numbers 1 to 5, a bad cell byte with its index.
-#[derive(Drop)]
+#[derive(Clone, Copy)]
 pub enum Refusal {
     Side,
     Count,
@@ -61,7 +61,7 @@ impl Refusal {
 }
 
 // What the checks of a request say.
-#[derive(Drop)]
+#[derive(Clone, Copy)]
 pub enum Checked {
     Accepted,
     Refused(Refusal),

@@ -10,7 +10,7 @@ use refusals::JobRefusal;
 use tracks::RouteRefusal;
 
 // All routes are right, of so many nets; or why they are not. Net numbers and places stand as the file has them.
-#[derive(Drop)]
+#[derive(Clone, Copy)]
 pub enum CheckAnswer {
     Right(usize),
     // The job's own refusals, then the file's.
@@ -33,7 +33,7 @@ pub enum CheckAnswer {
 }
 
 // A net as the job wants it: its number, its start (sx, sy) and its goal (gx, gy).
-#[derive(Drop)]
+#[derive(Clone, Copy)]
 pub struct Wanted {
     pub number: usize,
     pub sx: usize,
@@ -43,7 +43,7 @@ pub struct Wanted {
 }
 
 // What is wrong with what the bureau gives for a net: 25 to 28, with the place in the path.
-#[derive(Drop)]
+#[derive(Clone, Copy)]
 pub enum Fault {
     Nothing,
     End,
@@ -81,7 +81,7 @@ impl Fault {
 }
 
 // The first net with a fault.
-#[derive(Drop)]
+#[derive(Clone, Copy)]
 pub struct NetFault {
     pub net: usize,
     pub fault: Fault,

@@ -9,7 +9,7 @@ use board::inner::{column_of, row_of, side_fits};
 use board::{SIDE, Vertex};
 
 // What is answered: done, or 1, 4, or 21.
-#[derive(Drop)]
+#[derive(Clone, Copy)]
 pub enum PointsAnswer {
     Points,
     Side,

@@ -5,7 +5,7 @@ pub mod inner;
 
 // How many cells are blocked.
 #[repr(C)]
-#[derive(Drop)]
+#[derive(Clone, Copy)]
 pub struct Counted {
     pub number: u64,
     pub place: u64,

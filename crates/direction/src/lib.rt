@@ -12,14 +12,14 @@ use spans::inner::{difference, size_of};
 use spans::{check_differences, check_vertices};
 
 // The two parts of a leg's direction.
-#[derive(Drop)]
+#[derive(Clone, Copy)]
 pub struct Direction {
     pub x: f64,
     pub y: f64,
 }
 
 // A leg's direction, or the row that refuses it: 4, 5, or 9 for equal ends.
-#[derive(Drop)]
+#[derive(Clone, Copy)]
 pub enum Aimed {
     Of(Direction),
     Refused(Refusal),

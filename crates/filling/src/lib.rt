@@ -11,7 +11,7 @@ use bits::inner::row_bytes;
 use board::inner::side_fits;
 
 // Why packed bytes are refused: 1, 29, or 30 with the index of the first byte that has a filling bit set.
-#[derive(Drop)]
+#[derive(Clone, Copy)]
 pub enum PackedRefusal {
     Side,
     Length,
@@ -43,7 +43,7 @@ impl PackedRefusal {
 }
 
 // What the checks of packed bytes say.
-#[derive(Drop)]
+#[derive(Clone, Copy)]
 pub enum PackedChecked {
     Accepted,
     Refused(PackedRefusal),

@@ -9,7 +9,7 @@ use board::Vertex;
 use lines::Line;
 
 // A vertex by its column and row.
-#[derive(Drop)]
+#[derive(Clone, Copy)]
 pub struct Place {
     pub x: usize,
     pub y: usize,

@@ -12,7 +12,7 @@ use steps::Step;
 pub mod inner;
 
 // What a board read answers: the sides and how many nets there are, or 10 to 18 or 23, or 19.
-#[derive(Drop)]
+#[derive(Clone, Copy)]
 pub enum BoardAnswer {
     Board {
         width: usize,
@@ -24,7 +24,7 @@ pub enum BoardAnswer {
 }
 
 // What a net read answers: the net's number, start (sx, sy) and goal (gx, gy), or 10 to 18 or 23, or 20.
-#[derive(Drop)]
+#[derive(Clone, Copy)]
 pub enum NetAnswer {
     Net {
         number: usize,

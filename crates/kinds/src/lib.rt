@@ -11,7 +11,7 @@ const KEEPOUT: usize = 2;
 pub const NET: usize = 3;
 
 // What a record says; a keepout goes from (left, top) to just before (right, bottom). Unused has the byte.
-#[derive(Drop)]
+#[derive(Clone, Copy)]
 pub enum Record {
     Board {
         width: usize,

@@ -3,7 +3,7 @@
 #![tactic(auto)]
 
 // What stops a leg: nothing, a cell, a unit edge with its nearer vertex first, or a vertex.
-#[derive(Drop)]
+#[derive(Clone, Copy)]
 pub enum Stop {
     Clear,
     Cell(usize, usize),

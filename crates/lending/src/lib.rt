@@ -11,7 +11,7 @@ use bureau::CheckAnswer;
 pub mod inner;
 
 // How long the slices are: the board's, the four that a search works in, and the two for the results.
-#[derive(Drop)]
+#[derive(Clone, Copy)]
 pub struct Lengths {
     pub board: usize,
     pub g: usize,
@@ -23,7 +23,7 @@ pub struct Lengths {
 }
 
 // Which is too short: 19 the board's, 6 one that a search works in, 21 one for the results.
-#[derive(Drop)]
+#[derive(Clone, Copy)]
 pub enum Short {
     Nothing,
     Board,

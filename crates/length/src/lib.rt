@@ -14,13 +14,13 @@ use spans::{check_differences, check_vertices};
 pub mod inner;
 
 // A length in whole units.
-#[derive(Drop)]
+#[derive(Clone, Copy)]
 pub struct Length {
     pub units: u64,
 }
 
 // A leg's length, or the row that refuses it: 4 (first vertex, or dx) or 5 (second vertex, or dy).
-#[derive(Drop)]
+#[derive(Clone, Copy)]
 pub enum Measured {
     Of(Length),
     Refused(Refusal),

@@ -10,7 +10,7 @@ use board::MOST;
 pub mod inner;
 
 // A line: of a net with a path or without one, or of a refused job with its one or two places.
-#[derive(Drop)]
+#[derive(Clone, Copy)]
 pub enum Line {
     Path {
         number: u64,
@@ -35,7 +35,7 @@ pub enum Line {
 }
 
 // How many bytes the line has, or 21: the lent slice is shorter than the line.
-#[derive(Drop)]
+#[derive(Clone, Copy)]
 pub enum Answer {
     Written(usize),
     Short,

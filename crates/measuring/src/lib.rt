@@ -5,7 +5,7 @@ pub mod inner;
 
 // The length of a leg, in units and in cells.
 #[repr(C)]
-#[derive(Drop)]
+#[derive(Clone, Copy)]
 pub struct Long {
     pub number: u64,
     pub place: u64,

@@ -4,7 +4,7 @@
 pub mod inner;
 
 // What is asked: the board's sides, the start and the goal.
-#[derive(Drop)]
+#[derive(Clone, Copy)]
 pub struct Request {
     pub width: usize,
     pub height: usize,
@@ -15,7 +15,7 @@ pub struct Request {
 }
 
 // A vertex: its place and its number.
-#[derive(Drop)]
+#[derive(Clone, Copy)]
 pub struct Spot {
     pub x: usize,
     pub y: usize,
@@ -23,7 +23,7 @@ pub struct Spot {
 }
 
 // What a neighbour is offered: a parent, by its number, and the length of the leg from there.
-#[derive(Drop)]
+#[derive(Clone, Copy)]
 pub struct Offer {
     pub parent: usize,
     pub units: u64,

@@ -15,7 +15,7 @@ use filling::{PackedChecked, check_packed};
 mod bytes;
 
 // What reading answers: done, or 1, 29, 30, or 19.
-#[derive(Drop)]
+#[derive(Clone, Copy)]
 pub enum ReadAnswer {
     Read,
     Refused(PackedRefusal),
@@ -23,7 +23,7 @@ pub enum ReadAnswer {
 }
 
 // What writing answers: done, or 1 to 3, or 21.
-#[derive(Drop)]
+#[derive(Clone, Copy)]
 pub enum WriteAnswer {
     Written,
     Refused(Refusal),
@@ -31,7 +31,7 @@ pub enum WriteAnswer {
 }
 
 // What counting answers: how many cells are blocked, or 1, 29, 30.
-#[derive(Drop)]
+#[derive(Clone, Copy)]
 pub enum CountAnswer {
     Blocked(usize),
     Refused(PackedRefusal),

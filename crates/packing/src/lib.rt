@@ -5,7 +5,7 @@ pub mod inner;
 
 // What is said of a board read or written: it has no value.
 #[repr(C)]
-#[derive(Drop)]
+#[derive(Clone, Copy)]
 pub struct Packing {
     pub number: u64,
     pub place: u64,

@@ -5,7 +5,7 @@ pub mod inner;
 
 // How many bytes the line has that was written.
 #[repr(C)]
-#[derive(Drop)]
+#[derive(Clone, Copy)]
 pub struct Printed {
     pub number: u64,
     pub place: u64,

@@ -5,7 +5,7 @@ pub mod inner;
 
 // A job's board.
 #[repr(C)]
-#[derive(Drop)]
+#[derive(Clone, Copy)]
 pub struct Sides {
     pub number: u64,
     pub place: u64,
@@ -17,7 +17,7 @@ pub struct Sides {
 
 // A job's net.
 #[repr(C)]
-#[derive(Drop)]
+#[derive(Clone, Copy)]
 pub struct Net {
     pub number: u64,
     pub place: u64,

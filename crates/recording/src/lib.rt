@@ -5,7 +5,7 @@ pub mod inner;
 
 // How many records were written.
 #[repr(C)]
-#[derive(Drop)]
+#[derive(Clone, Copy)]
 pub struct Recorded {
     pub number: u64,
     pub place: u64,
@@ -15,7 +15,7 @@ pub struct Recorded {
 
 // What is said of a path turned into points: it has no value.
 #[repr(C)]
-#[derive(Drop)]
+#[derive(Clone, Copy)]
 pub struct Turned {
     pub number: u64,
     pub place: u64,

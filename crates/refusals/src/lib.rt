@@ -6,7 +6,7 @@ ghost use Rattle.board.specs.Handed.{number_in, place_in, second_in};
 ghost use Rattle.refusals.specs.Refusals.{refusal_row};
 
 // Why a job is refused: document 01's 10 to 18, from 12 on with the number of the record, and document 02's 23.
-#[derive(Drop)]
+#[derive(Clone, Copy)]
 pub enum JobRefusal {
     Long,
     Uneven,

@@ -5,7 +5,7 @@ pub mod inner;
 
 // A route.
 #[repr(C)]
-#[derive(Drop)]
+#[derive(Clone, Copy)]
 pub struct Found {
     pub number: u64,
     pub place: u64,

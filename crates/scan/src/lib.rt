@@ -7,7 +7,7 @@ pub mod inner;
 
 // What the records before say: the last net, the place that its next record must have, 0 if it can have none, and how many
 // nets and points there are.
-#[derive(Drop)]
+#[derive(Clone, Copy)]
 pub struct Progress {
     pub last: usize,
     pub next: usize,
@@ -16,7 +16,7 @@ pub struct Progress {
 }
 
 // What a record is judged as.
-#[derive(Drop)]
+#[derive(Clone, Copy)]
 pub enum Step {
     Next(Progress),
     Refused(RouteRefusal),

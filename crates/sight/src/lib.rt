@@ -12,7 +12,7 @@ use walks::inner::first_stop;
 
 // The answer to a sight request (document 01's 0): the leg is clear, or the first thing in its way, as `Stop` has it; or why
 // there is none (1 to 5).
-#[derive(Drop)]
+#[derive(Clone, Copy)]
 pub enum Answer {
     Clear,
     Cell(usize, usize),

@@ -6,7 +6,7 @@ pub mod inner;
 // Does a leg have sight, 1 or 0, and what stops it first: nothing (kind 0), a cell (1), an edge, its nearer vertex first (2), or a
 // vertex (3).
 #[repr(C)]
-#[derive(Drop)]
+#[derive(Clone, Copy)]
 pub struct Seen {
     pub number: u64,
     pub place: u64,

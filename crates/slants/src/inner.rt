@@ -12,7 +12,7 @@ use legs::Stop;
 use walls::leg;
 
 // What a step along the leg adds to a cell's index (right, down) or takes from it (left, up).
-#[derive(Drop)]
+#[derive(Clone, Copy)]
 pub struct Steps {
     right: usize,
     left: usize,

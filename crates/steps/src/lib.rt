@@ -9,7 +9,7 @@ use refusals::JobRefusal;
 pub mod inner;
 
 // What the records so far say: the board's sides, the last net's number and how many nets.
-#[derive(Drop)]
+#[derive(Clone, Copy)]
 pub struct Progress {
     pub width: usize,
     pub height: usize,
@@ -18,7 +18,7 @@ pub struct Progress {
 }
 
 // A record's judgement: go on, or the refusal.
-#[derive(Drop)]
+#[derive(Clone, Copy)]
 pub enum Step {
     Next(Progress),
     Refused(JobRefusal),

@@ -4,7 +4,7 @@
 pub mod inner;
 
 // What is known of the routes before they are written: how many records and points there are, or the record that is wrong.
-#[derive(Drop)]
+#[derive(Clone, Copy)]
 pub enum Measured {
     Fits { records: usize, points: usize },
     Wrong(usize),

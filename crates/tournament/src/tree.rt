@@ -12,7 +12,7 @@ use ranks::inner::ahead;
 pub const NO_KEY: u64 = 0xffff_ffff_ffff_ffff;
 
 // A vertex and its f; or any vertex, and no key.
-#[derive(Drop)]
+#[derive(Clone, Copy)]
 pub struct Leader {
     pub vertex: usize,
     pub f: u64,

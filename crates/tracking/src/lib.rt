@@ -5,7 +5,7 @@ pub mod inner;
 
 // How many nets and points were read.
 #[repr(C)]
-#[derive(Drop)]
+#[derive(Clone, Copy)]
 pub struct Routes {
     pub number: u64,
     pub place: u64,

@@ -14,7 +14,7 @@ pub const NONE: usize = 5;
 pub const PLACES: usize = 65536;
 
 // Why a route file is refused: 11, 13, 23 with record and byte, or 22.
-#[derive(Drop)]
+#[derive(Clone, Copy)]
 pub enum RouteRefusal {
     Uneven,
     Unknown(usize),
@@ -61,7 +61,7 @@ impl RouteRefusal {
 }
 
 // What reading answers: how many nets and points there are, or a refusal, or 21.
-#[derive(Drop)]
+#[derive(Clone, Copy)]
 pub enum ReadAnswer {
     Read { nets: usize, points: usize },
     Refused(RouteRefusal),
@@ -69,7 +69,7 @@ pub enum ReadAnswer {
 }
 
 // What writing answers: how many records there are, or 22 with the record, or 21.
-#[derive(Drop)]
+#[derive(Clone, Copy)]
 pub enum WriteAnswer {
     Written(usize),
     Order(usize),

@@ -4,7 +4,7 @@
 pub mod inner;
 
 // Whether there is a path, how many vertices were expanded, and how many sight tests were made.
-#[derive(Drop)]
+#[derive(Clone, Copy)]
 pub struct Outcome {
     pub found: bool,
     pub expansions: u64,

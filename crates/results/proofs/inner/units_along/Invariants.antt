@@ -1,0 +1,19 @@
+-- `results::inner::units_along` adds up the legs. The loop's invariant: the sum so far, which stays small.
+use mathlib.Core.Path.{◌≡◌}
+use Prim.Native.Nat.{ℕ, ◌+◌, ◌-◌, ◌*◌, ◌≤◌}
+use native.Mathlib.Omega.{arith}
+use borrow.Author.Rules.{rules}
+use Rattle.records.specs.Records.{records}
+use Rattle.bureau.specs.Paths.{total, leg_units, units_along}
+use Rattle.bureau.specs.Inner.{record_points, PointsSmall}
+use Rattle.results.proofs.Measuring.{side_read, leg_length, total_none, total_more, total_done}
+use Rattle.results.proofs.inner.units_along.Given as goal
+
+abbrev pub invariant-loop-k : goal.invariant-loop-k
+invariant-loop-k l =
+    (l.k ≤ l.k-end) × (l.k-end + 1 ≡ l.n) × (l.n ≤ 65536) × (l.first + l.n ≤ records l.file) × (l.sum ≤ l.k * 134217728)
+    × PointsSmall l.n (record_points l.file l.first)
+    × (l.sum ≡ total l.k (λ (i : ℕ). leg_units (record_points l.file l.first i) (record_points l.file l.first (i + 1))))
+
+abbrev pub decreases-loop-k : goal.decreases-loop-k
+decreases-loop-k l = l.k-end - l.k
