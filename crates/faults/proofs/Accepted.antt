@@ -1,11 +1,9 @@
 -- What an accepted job's records are known to be: its sides, its keepouts and its nets. Assumes nothing.
 use Prim.Native.Nat.{ℕ, ◌≤◌, ◌<◌}
-use mathlib.Core.Path.{◌≡◌, sym, ◌∙◌}
+use mathlib.Core.Path.{◌≡◌, refl, sym, ◌∙◌}
 use mathlib.Core.Bool.{Bool, true, false, not, ◌&&◌, cond, true≢false}
 use mathlib.Core.List.{List, [], ◌∷◌}
 use native.Mathlib.Omega.{arith}
-use types.Run.{OneOf, miss}
-use denote.Enum.Declared.{tag_of}
 use lib.Dec.{leb, ltb, eqb}
 use lib.ListN.{length}
 use borrow.Author.Tests.{not-false, eqb-false, leb-true, ltb-true}
@@ -17,7 +15,6 @@ use Rattle.records.proofs.Stray.{unused_passes}
 use Rattle.records.proofs.InOrder.{each_passes}
 use Rattle.kinds.specs.declared.Record.{Record}
 use Rattle.kinds.specs.declared.Record.TheVariants.{Keepout}
-use Rattle.kinds.specs.contracts.Record.{the_type}
 use Rattle.kinds.specs.Job.{longest_job, is_board, is_keepout, is_net, is_unknown, used_by, width, height, left, top, right}
 use Rattle.kinds.specs.Job.{bottom, net_at}
 use Rattle.faults.specs.Faults.{is_misplaced, is_late, is_oversized, is_bad_keepout, is_unordered, is_on, is_end_off}
@@ -101,11 +98,11 @@ module _ {job : List ℕ} (a : Accepted job) where
   keepout_on {i} l (keepout e t) = keepout_below i l (rw t)
 
   -- one that says no keepout is none
-  pub no_keepout : (i : ℕ) → i < records job → {r : Record} → Says job i r → OneOf (0 ∷ 2 ∷ 3 ∷ 4 ∷ []) (tag_of the_type r) → is_keepout job i ≡ false
+  pub no_keepout : (i : ℕ) → i < records job → {r : Record} → Says job i r → ((x y x2 y2 : ℕ) → r ≡ Keepout x y x2 y2 → ⊥) → is_keepout job i ≡ false
   no_keepout i l (unknown u) k = absurd (true≢false (sym u ∙ is_known i l))
   no_keepout i l (unused u e) k = absurd (true≢false (sym e ∙ is_tidy i l))
   no_keepout i l (board e t) k = rw t
-  no_keepout i l (keepout e t) k = absurd (miss (0 ∷ 2 ∷ 3 ∷ 4 ∷ []) 1 tt k)
+  no_keepout i l (keepout e t) k = absurd (k _ _ _ _ refl)
   no_keepout i l (net e t) k = rw t
 
   -- ---- a net

@@ -2,8 +2,11 @@
 // said on standard error.
 #![tactic(auto)]
 
-ghost use Rattle.std.specs.Prelude.{◌≡◌, true, length, ◌+◌, ◌≤◌, ◌<◌};
+ghost use Rattle.std.specs.Prelude.{◌≡◌, true, length, ◌+◌, ◌≤◌, ◌<◌, IfOk};
 ghost use Rattle.streams.specs.Tries.{most_tries};
+
+use std::io;
+use std::io::{ErrorKind, Read};
 
 // How often a read or a write that moves nothing is tried.
 const TRIES: usize = 100000000;
@@ -15,46 +18,55 @@ fn most_tries() -> usize
     TRIES
 }
 
-const IN: i32 = 0;
-
-const OUT: i32 = 1;
+// The system's number for a stream that is closed, which has no kind of its own.
+const EBADF: i32 = 9;
 
 // Whether the system has only put off what it was last asked for: interrupted, or nothing to be had just now, and not too often.
-fn is_put_off(tries: usize) -> bool
+fn is_put_off(error: &io::Error, tries: usize) -> bool
     ensures { result ≡ true → tries < most_tries }
 {
-    let error = os::errno();
+    let kind = error.kind();
     if tries < TRIES {
-        return (error == libc::EINTR) | (error == libc::EAGAIN);
+        return (kind == ErrorKind::Interrupted) | (kind == ErrorKind::WouldBlock);
     }
     false
 }
 
-// One write of the bytes from a place on: how many the system took, 0 if it failed.
-fn write_some(bytes: &[u8], done: usize) -> usize
+// Says on standard error why a stream failed. Where that fails too, nothing is left to say it on.
+fn tell<R: Eprint>(rt: &R, stream: &str, error: &io::Error) {
+    let _ = eprintln!(rt; "route: {stream}: {error}");
+}
+
+// One write of the bytes from a place on: how many the system took, or why it took none.
+fn write_some<R: Print>(rt: &R, bytes: &[u8], done: usize) -> io::Result<usize>
     requires { done ≤ length bytes.now }
-    ensures { done + result ≤ length bytes.now }
+    ensures taken { IfOk result (λ n. 0 < n) }
+    ensures within { IfOk result (λ n. done + n ≤ length bytes.now) }
 {
-    let rest = &bytes[done..];
-    io::count(libc::write(OUT, rest), rest)
+    match rt.write_some(&bytes[done..])? {
+        0 => Err(io::Error::from(ErrorKind::WriteZero)),
+        n => Ok(n),
+    }
 }
 
 // Writes all the bytes, or says on standard error why not.
-pub fn write_whole(bytes: &[u8]) -> bool {
+pub fn write_whole<R: Print + Eprint>(rt: &R, bytes: &[u8]) -> bool {
     let mut done = 0;
     let mut tries = 0;
     while done < bytes.len() {
-        let n = write_some(bytes, done);
-        done += n;
-        if 0 < n {
-            tries = 0;
-            continue;
+        match write_some(rt, bytes, done) {
+            Ok(n) => {
+                done += n;
+                tries = 0;
+            }
+            Err(error) => {
+                if !is_put_off(&error, tries) {
+                    tell(rt, "standard output", &error);
+                    return false;
+                }
+                tries += 1;
+            }
         }
-        if !is_put_off(tries) {
-            os::fail(b"route: standard output");
-            return false;
-        }
-        tries += 1;
     }
     true
 }
@@ -66,46 +78,42 @@ pub struct Input {
     pub ended: bool,
 }
 
-// One read into the job from a place on.
-fn read_some(job: &mut [u8], done: usize) -> Input
+// One read into the job from a place on: how many bytes came, 0 at the end, or why none came.
+fn read_some<S: Read>(source: &mut S, job: &mut [u8], done: usize) -> io::Result<usize>
     requires { done ≤ length job.old }
-    ensures { done + result.bytes ≤ length job.old }
+    ensures { IfOk result (λ bytes. done + bytes ≤ length job.old) }
 {
-    let got = libc::read(IN, &mut job[done..]);
-    let bytes = io::count(got, &job[done..]);
-    Input {
-        bytes,
-        ended: got == 0,
-    }
+    source.read(&mut job[done..])
 }
 
 // Reads to the end of the input, or until the job is full, or says on standard error why not. A closed input has ended.
-pub fn read_job(job: &mut [u8]) -> Input
+pub fn read_job<R: io::Input + Eprint>(rt: &R, job: &mut [u8]) -> Input
     ensures { result.bytes ≤ length job.new }
 {
+    let mut source = rt.reader();
     let mut done = 0;
     let mut tries = 0;
     while done < job.len() {
-        let more = read_some(job, done);
-        done += more.bytes;
-        if more.ended {
-            break;
+        match read_some(&mut source, job, done) {
+            Ok(0) => break,
+            Ok(bytes) => {
+                done += bytes;
+                tries = 0;
+            }
+            Err(error) => {
+                if error.raw_os_error() == Some(EBADF) {
+                    break;
+                }
+                if !is_put_off(&error, tries) {
+                    tell(rt, "standard input", &error);
+                    return Input {
+                        bytes: done,
+                        ended: false,
+                    };
+                }
+                tries += 1;
+            }
         }
-        if 0 < more.bytes {
-            tries = 0;
-            continue;
-        }
-        if os::errno() == libc::EBADF {
-            break;
-        }
-        if !is_put_off(tries) {
-            os::fail(b"route: standard input");
-            return Input {
-                bytes: done,
-                ended: false,
-            };
-        }
-        tries += 1;
     }
     Input {
         bytes: done,

@@ -27,14 +27,14 @@ take_point-j-requires c =
     let read = c in
     let l = read.loop-i in
     let t = one_before read in
-    let room = point_room (start read).requires t in (
-      omega (arith, t.below),
-      (
+    let room = point_room (start read).requires t in record {
+      i_bound = omega (arith, t.below);
+      point_bound = (
         rw read.byte_of-point.ensures room,
         omega (arith, filled_length l.invariant.xs, l.invariant.xs.ends, l.invariant.xs.room),
         omega (arith, filled_length l.invariant.ys, l.invariant.ys.ends, l.invariant.ys.room),
-      ),
-    )
+      );
+    }
 
 abbrev start_2 : goal.After-take_net-arg-in-loop-i-1 → goal.After-take_net-arg-in-loop-i-1
 start_2 c = c

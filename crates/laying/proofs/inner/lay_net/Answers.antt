@@ -21,7 +21,7 @@ returns-then-count-eq0 c =
     let none = put in
     let start = none in
     let a = start.args in
-    let written : put.put_record.new.0 ≡ take (a.at * 8) a.file.now ++ (bytes_for 5 a.net 0 0 0 ++ drop (a.at * 8 + 8) a.file.now) = put.put_record.ensures in
+    let written : put.put_record.new.file ≡ take (a.at * 8) a.file.now ++ (bytes_for 5 a.net 0 0 0 ++ drop (a.at * 8 + 8) a.file.now) = put.put_record.ensures in
     net_none _ _ _ _ _ _ _ start.requires.2 none.if-count-eq0.true written
 
 pub loop-p-init : goal.loop-p-init

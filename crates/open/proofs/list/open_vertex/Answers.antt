@@ -16,7 +16,8 @@ pub units_between-requires : goal.units_between-requires
 units_between-requires c =
     let s = c in
     let D = s.requires.sited in
-    known_leg s.requires.known (D.narrow, D.low) (omega (arith, D))
+    let (small, known) = known_leg s.requires.known (D.narrow, D.low) (omega (arith, D)) in
+    record { ax_le_largest_side = small; known = known }
 
 abbrev start : goal.After-units_between → goal.After-units_between
 start k = k

@@ -20,7 +20,7 @@ loop-i-preserved-in_default c =
     let at = read in
     let l = at.loop-i in
     let s = at in
-    let none = no_keepout s.requires.accepted l.i (omega arith) (said _ _ read.record_at.ensures) c.in_default.in_default-own.keys2 in
+    let none = no_keepout s.requires.accepted l.i (omega arith) (said _ _ read.record_at.ensures) c.in_default.not-Keepout in
     (omega arith, l.invariant.1, keepouts_skip _ _ l.i none l.invariant.2)
 
 pub paint-requires : goal.paint-requires

@@ -19,4 +19,4 @@ loop-i-preserved c =
     let parts = text_parts text l.i below in
     let piece = get_or text l.i 0 ∷ [] in
     let more = put_turn (take l.i text) piece (drop (l.i + 1) text) parts l.invariant.1 l.invariant.0 put.ensures in
-    (rw (text_more text l.i below) at more, l.invariant.1, put.auto.0 ∙ l.invariant.2, omega arith)
+    (rw (text_more text l.i below) at more, l.invariant.1, put.auto.out ∙ l.invariant.2, omega arith)

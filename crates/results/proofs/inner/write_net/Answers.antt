@@ -45,12 +45,12 @@ units_along-requires c =
     let a = s.args in
     let all = all_records _ s.requires.file_value in
     let there = some_points a.file.now a.number all _ f.first_record-first.ensures (answered_yes h.has_point.ensures e.if-not-has_point.false-raw) in
-    let run = c.count_points-n.ensures.0 in (
-      (run.some, c.count_points-n.ensures.1, run.within),
-      small_read (points_for (routes_in a.file.now) a.number) c.count_points-n.result (record_points a.file.now f.first_record-first.result)
+    let run = c.count_points-n.ensures.0 in record {
+      n_nonzero = (run.some, c.count_points-n.ensures.1, run.within);
+      points_small = small_read (points_for (routes_in a.file.now) a.number) c.count_points-n.result (record_points a.file.now f.first_record-first.result)
           (run_length a.file.now a.number all _ f.first_record-first.ensures there.0 _ run)
-          (run_at a.file.now a.number all _ f.first_record-first.ensures there.0 _ run) s.requires.points_small,
-    )
+          (run_at a.file.now a.number all _ f.first_record-first.ensures there.0 _ run) s.requires.points_small;
+    }
 
 abbrev start_4 : goal.After-units_along → goal.After-units_along
 start_4 f = f

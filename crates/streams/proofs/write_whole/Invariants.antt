@@ -1,0 +1,10 @@
+-- `streams::write_whole` ends: each turn some bytes are done, or there is a try less until the next byte.
+use Rattle.std.proofs.Common.{length, ◌-◌, ◌+◌, ◌≤◌, ◌*◌}
+use Rattle.streams.specs.Tries.{most_tries}
+use Rattle.streams.proofs.write_whole.Given as goal
+
+abbrev pub invariant-loop-done : goal.invariant-loop-done
+invariant-loop-done g l = (l.done ≤ length l.bytes) × (l.tries ≤ most_tries)
+
+abbrev pub decreases-loop-done : goal.decreases-loop-done
+decreases-loop-done g l = (length l.bytes - l.done) * (most_tries + 1) + (most_tries - l.tries)
