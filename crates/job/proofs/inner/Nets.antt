@@ -4,14 +4,11 @@ use mathlib.Core.Path.{◌≡◌, sym, ◌∙◌}
 use mathlib.Core.Logic.{⊎_elim}
 use mathlib.Core.List.{List, [], ◌∷◌}
 use native.Mathlib.Omega.{arith}
-use types.Run.{OneOf, miss}
-use denote.Enum.Declared.{tag_of}
 use borrow.Author.Tests.{le-leb, lt-leb}
 use Rattle.laws.proofs.Tests.{order}
 use Rattle.board.specs.Handed.{answer}
 use Rattle.kinds.specs.declared.Record.{Record}
 use Rattle.kinds.specs.declared.Record.TheVariants.{Net}
-use Rattle.kinds.specs.contracts.Record.{the_type}
 use Rattle.job.specs.declared.NetAnswer.TheVariants as net-read
 use Rattle.kinds.specs.Job.{net_at, nets, net_record}
 use Rattle.job.specs.Answers.{handed_net, net_row}
@@ -39,10 +36,10 @@ module _ {job : List ℕ} (a : Accepted job) (index : ℕ) where
           → handed_net (net-read.Net n sx sy gx gy) ≡ answer (net_at job i)
       handed i f = cc f
 
-  pub net_missing : (r : Record) → OneOf (0 ∷ 1 ∷ 3 ∷ 4 ∷ []) (tag_of the_type r) → r ≡ net_said job index → handed_net net-read.NoNet ≡ net_row job index
+  pub net_missing : (r : Record) → ((n sx sy gx gy : ℕ) → r ≡ Net n sx sy gx gy → ⊥) → r ≡ net_said job index → handed_net net-read.NoNet ≡ net_row job index
   unfolding net_row
   net_missing r k e =
       ⊎_elim
-      (λ (l : index < nets job). absurd (miss (0 ∷ 1 ∷ 3 ∷ 4 ∷ []) 2 tt (rw (e ∙ said_net a index l) at k)))
+      (λ (l : index < nets job). absurd (k _ _ _ _ _ (e ∙ said_net a index l)))
       (λ (g : nets job ≤ index). rw (a.passed, le-leb (nets job) index g))
       (order index (nets job))

@@ -25,7 +25,7 @@ returns-then-before-index c =
     let e = c in
     let l = e.loop-i in
     let net = eq-eqb _ 3 (sym e.byte_of.ensures ∙ e.if-byte_of-ne-NET.false) in
-    let here : l ≡ e.args.index = omega arith in
+    let here : l.before ≡ e.args.index = omega arith in
     c.record_at.ensures ∙ found_here _ l.i (omega arith) net (sym l.invariant.2 ∙ here)
 
 pub loop-i-preserved : goal.loop-i-preserved
