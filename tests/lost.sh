@@ -1,7 +1,7 @@
 #!/bin/sh
 # lost.sh COMMAND...: nothing is lost in silence. COMMAND starts the route program; here its reads and writes fail or are put off.
 # A loss must be told by a word on standard error and by the status, and what was printed before it must be the start of the right
-# lines; what is only put off must not be lost. The last case, on x86-64 alone, waits until the program gives up an input that never comes.
+# lines; what is only put off must not be lost. The last case waits until the program gives up an input that never comes.
 set -eu
 [ $# -gt 0 ] || { echo "usage: lost.sh COMMAND..." >&2; exit 2; }
 tests=$(cd "$(dirname "$0")" && pwd)
@@ -65,12 +65,9 @@ told "a directory as standard input" $status "standard input: "
 
 run perl "$tests/pipes.pl" "$work/job" "$work/out" "$@"
 whole "a pause on the input and a slow reader, neither blocking" $status
-# Under an emulator it takes a minute until the program gives up.
-if [ "$(uname -m)" = x86_64 ]; then
-    run perl "$tests/pipes.pl" never "$work/out" "$@"
-    told "an input that never comes" $status "standard input: "
-    [ ! -s "$work/out" ] || { echo "an input that never came was answered"; failed=$((failed + 1)); }
-fi
+run perl "$tests/pipes.pl" never "$work/out" "$@"
+told "an input that never comes" $status "standard input: "
+[ ! -s "$work/out" ] || { echo "an input that never came was answered"; failed=$((failed + 1)); }
 
 echo "$passed passed, $failed failed"
 [ $failed = 0 ]

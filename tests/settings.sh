@@ -1,26 +1,18 @@
 # Read by the scripts beside it: where things are, and how a program is built and run. Each may be set from outside.
 #
 #   LIBRARY  what provides the functions of include/wexxolin.h: an archive or object files (target/staticlib/libwexxolin.a),
-#            or the word fast for the fast router, which is built for this machine
+#            or the word fast for the fast router, which is built for this machine, whatever that is
 #   CC       the compiler          FLAGS  its flags          LINK  flags behind the objects
-#   RUN      the command that runs a program built for x86-64 (nothing on x86-64 itself)
+#   RUN      a command that runs what is built (nothing): an emulator, for an archive on a machine that is not x86-64
 #   OUT      folder for what is built (target/outside)
-#   SCALE    how many random cases outside.sh tries (1; under an emulator, which is many times slower, 1/16; where every small board is tried, it bounds their size)
+#   SCALE    how many random cases outside.sh tries (1; with RUN, under which all is many times slower, 1/16; where every small board is
+#            tried, it bounds their size)
 root=$(cd "$(dirname "$0")/.." && pwd)
 OUT=${OUT:-$root/target/outside}
 LIBRARY=${LIBRARY:-$root/target/staticlib/libwexxolin.a}
 FLAGS=${FLAGS:--O2 -std=c11 -Wall -Wextra -fno-math-errno}
-if [ "$LIBRARY" = fast ]; then
-    CC=${CC:-gcc} LINK=${LINK-} RUN=${RUN-}
-    LIBRARY="$root/bench/fast.c $root/bench/fast_library.c"
-elif [ "$(uname -m)" = x86_64 ]; then
-    CC=${CC:-gcc} LINK=${LINK-} RUN=${RUN-}
-else
-    # the Rattle kit brings an emulator; a qemu-user that is installed serves as well
-    kit=$(cd "$(dirname "$(readlink -f "$(command -v rt)")")/.." && pwd)/on/$(uname -m)/toolchain/bin/qemu-x86_64
-    [ -x "$kit" ] || kit=qemu-x86_64
-    CC=${CC:-x86_64-linux-gnu-gcc} LINK=${LINK--static} RUN=${RUN-$kit}
-fi
+CC=${CC:-gcc} LINK=${LINK-} RUN=${RUN-}
+[ "$LIBRARY" != fast ] || LIBRARY="$root/bench/fast.c $root/bench/fast_library.c"
 SCALE=${SCALE:-$([ -z "$RUN" ] && echo 1 || echo 1/16)}
 mkdir -p "$OUT"
 

@@ -1,12 +1,12 @@
 -- How long the lines of a route can be: on a board with sides up to some side, `longest_line` bytes suffice. Assumes nothing.
-use Prim.Native.Nat.{ℕ, suc, ◌+◌, ◌*◌, ◌/◌, ◌%◌, ◌^◌, ◌≤◌, ◌<◌, max}
-use mathlib.Core.Path.{◌≡◌, refl, sym, ap, ◌∙◌}
+use Prim.Native.Nat.{ℕ, suc, ◌+◌, ◌*◌, ◌^◌, ◌≤◌, ◌<◌, max}
+use mathlib.Core.Path.{◌≡◌, refl}
 use mathlib.Core.List.{List, [], ◌∷◌}
 use native.Mathlib.Nat.{mod-lt, div-lt_iff_lt-mul, max-eq_left, mul-le-mul_left}
 use native.Mathlib.Omega.{arith}
 use lib.ListN.{length, get_or, length-append}
 use Rattle.board.specs.Board.{column_of, row_of}
-use Rattle.lines.specs.Lines.{decimal, most_digits, vertex_field, vertex_fields, spaced, longest_line}
+use Rattle.lines.specs.Lines.{decimal, vertex_field, vertex_fields, spaced, longest_line}
 use Rattle.lines.specs.Lines.{net_line, none_line, refused_line, refused_twice_line}
 use Rattle.lines.proofs.Decimal.{few_digits, fewer_digits}
 use Rattle.lines.proofs.Fields.{net_count, none_count, refused_count, refused_twice_count, vertex_count}

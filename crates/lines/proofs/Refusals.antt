@@ -1,10 +1,9 @@
 -- The line of a refusal: its bytes, and that it is short. Assumes nothing.
-use Prim.Native.Nat.{ℕ, ◌^◌, ◌≤◌, ◌<◌}
-use mathlib.Core.Path.{◌≡◌, refl}
+use Prim.Native.Nat.{ℕ}
+use mathlib.Core.Path.{◌≡◌}
 use mathlib.Core.Logic.{⊎_elim}
-use mathlib.Core.Bool.{true, false, cond}
+use mathlib.Core.Bool.{true, false}
 use mathlib.Core.List.{List}
-use lib.ListN.{length}
 use Rattle.laws.proofs.Tests.{bool_cases}
 use Rattle.lines.specs.declared.Line.TheVariants as Line-of
 use Rattle.lines.specs.Lines.{has_second, refusal_line}

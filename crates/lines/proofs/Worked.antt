@@ -1,7 +1,6 @@
 -- The lines of document 01, as the definitions compute them. Assumes nothing.
 use mathlib.Core.Path.{◌≡◌, refl}
-use mathlib.Core.List.{List, [], ◌∷◌}
-use Prim.Native.Nat.{ℕ}
+use mathlib.Core.List.{[], ◌∷◌}
 use Rattle.lines.specs.Lines.{digits_up_to, decimal, vertex_field, net_line, none_line, refused_line, refused_twice_line}
 
 -- net 1 path 2531486 expanded 3 tests 10 at 0,0 1,1 2,1

@@ -1,5 +1,5 @@
 -- What the line call hands back, and what it leaves in the lent slice.
-use Rattle.std.specs.Prelude.{ℕ, ◌≡◌, cond, List, ◌++◌, ltb, eqb, length, drop}
+use Rattle.std.specs.Prelude.{ℕ, ◌≡◌, cond, List, ◌++◌, ltb, length, drop}
 use Rattle.board.specs.Handed.{row, Handed, answer, unless, judged}
 use Rattle.board.specs.Handed as table
 use Rattle.lines.specs.declared.Line.{Line}

@@ -1,5 +1,5 @@
 -- A job's refusals: the row of each and the way back, and how rows that refuse or pass are handed back. Assumes nothing.
-use Prim.Native.Nat.{ℕ, ◌<◌}
+use Prim.Native.Nat.{ℕ}
 use mathlib.Core.Path.{◌≡◌, refl, sym, ap, ◌∙◌}
 use mathlib.Core.Bool.{Bool, true, false, ◌&&◌, ◌||◌, cond, true≢false}
 use native.Mathlib.Omega.{arith}

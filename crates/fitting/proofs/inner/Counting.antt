@@ -5,7 +5,6 @@ use mathlib.Core.List.{List, ◌++◌}
 use native.Mathlib.Omega.{arith}
 use lib.ListN.{length, length-append}
 use Rattle.lines.specs.Lines.{decimal, spaced, vertex_fields, net_line, none_line, refused_line, refused_twice_line}
-use Rattle.lines.specs.Inner.{Counted}
 use Rattle.lines.proofs.Fields.{net_count, none_count, refused_count, refused_twice_count}
 
 -- the digits of one number, and of two

@@ -1,4 +1,3 @@
-use borrow.Author.Rules.{rules}
 use borrow.Author.Tests.{lt-ltb, le-ltb}
 use Rattle.bits.specs.Packed.{bit_from}
 use Rattle.bits.proofs.inner.bit_from.Goals as goal

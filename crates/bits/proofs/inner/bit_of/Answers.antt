@@ -1,7 +1,3 @@
-use Prim.Native.Nat.{◌+◌, ◌*◌, ◌/◌, ◌<◌}
-use native.Mathlib.Omega.{arith}
-use borrow.Author.Rules.{rules}
-use lib.ListN.{length}
 use Rattle.bits.specs.Packed.{bit_at, bit_of}
 use Rattle.bits.proofs.inner.bit_of.Goals as goal
 

@@ -1,10 +1,7 @@
 -- `bits::inner::byte_from` joins the bits for eight columns. The loop's invariant: the byte so far is made of those so far.
-use mathlib.Core.Path.{◌≡◌, sym}
-use Prim.Native.Nat.{ℕ, ◌+◌, ◌-◌, ◌≤◌, ◌<◌}
-use native.Mathlib.Omega.{arith}
+use mathlib.Core.Path.{◌≡◌}
+use Prim.Native.Nat.{ℕ, ◌+◌, ◌-◌, ◌≤◌}
 use Rattle.bits.specs.Packed.{joined, bit_from}
-use Rattle.bits.proofs.Digits.{joined_none, joined_more, joined_fits}
-use Rattle.bits.proofs.Trips.{bit_from_le}
 use Rattle.bits.proofs.inner.byte_from.Given as goal
 
 abbrev pub invariant-loop-place : goal.invariant-loop-place

@@ -1,9 +1,6 @@
-use Prim.Native.Nat.{ℕ, ◌+◌, ◌≤◌, ◌<◌}
-use mathlib.Core.Path.{◌≡◌}
+use Prim.Native.Nat.{◌≤◌, ◌<◌}
 use native.Mathlib.Omega.{arith}
-use lib.ListN.{length}
-use Rattle.lines.specs.Lines.{decimal, most_digits}
-use Rattle.lines.proofs.Decimal.{tenth_below, count_one, count_more, few_digits}
+use Rattle.lines.proofs.Decimal.{count_one, count_more, few_digits}
 use Rattle.fitting.proofs.inner.count_digits.Goals as goal
 
 pub loop-rest-init : goal.loop-rest-init

@@ -1,10 +1,8 @@
 -- `fitting::inner::count_digits`: the digits counted so far and those of the rest are one more than all; the measure is the rest.
-use Prim.Native.Nat.{ℕ, ◌+◌, ◌≤◌, ◌<◌}
+use Prim.Native.Nat.{◌+◌, ◌≤◌}
 use mathlib.Core.Path.{◌≡◌}
-use native.Mathlib.Omega.{arith}
 use lib.ListN.{length}
 use Rattle.lines.specs.Lines.{decimal, most_digits}
-use Rattle.lines.proofs.Decimal.{tenth_below, count_one, count_more, few_digits}
 use Rattle.fitting.proofs.inner.count_digits.Given as goal
 
 abbrev pub invariant-loop-rest : goal.invariant-loop-rest

@@ -1,9 +1,7 @@
-use Prim.Native.Nat.{ℕ}
 use native.Mathlib.Omega.{arith}
 use lib.ListN.{length-append}
 use Rattle.lines.specs.Lines.{decimal}
 use Rattle.lines.proofs.Fields.{vertex_count}
-use borrow.Author.Rules.{rules}
 use Rattle.fitting.proofs.inner.count_vertex.Goals as goal
 
 pub returns : goal.returns

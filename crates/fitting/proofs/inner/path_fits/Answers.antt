@@ -1,13 +1,10 @@
-use Prim.Native.Nat.{ℕ, ◌+◌, ◌-◌, ◌≤◌, ◌<◌}
-use mathlib.Core.Path.{◌≡◌, sym, ap}
-use mathlib.Core.List.{List}
+use Prim.Native.Nat.{ℕ, ◌+◌}
+use mathlib.Core.Path.{sym}
 use native.Mathlib.Omega.{arith}
-use borrow.Author.Tests.{le-leb, lt-leb}
-use lib.ListN.{length, take}
-use lib.Seq.{take_all}
+use borrow.Author.Tests.{lt-leb}
+use lib.ListN.{length}
 use Rattle.lines.specs.Lines.{spaced, vertex_fields}
 use Rattle.lines.proofs.Fields.{more_count, within_count}
-use borrow.Author.Rules.{rules}
 use Rattle.fitting.proofs.inner.path_fits.Goals as goal
 
 pub returns-then-left-bytes : goal.returns-then-left-bytes

@@ -1,14 +1,8 @@
 -- `fitting::inner::path_fits`: the bytes given, those of the vertices so far and what is left make up the room.
-use Prim.Native.Nat.{ℕ, ◌+◌, ◌-◌, ◌≤◌, ◌<◌}
-use mathlib.Core.Path.{◌≡◌, sym, ap}
-use mathlib.Core.List.{List}
-use native.Mathlib.Omega.{arith}
-use borrow.Author.Tests.{le-leb, lt-leb}
+use Prim.Native.Nat.{◌+◌, ◌-◌, ◌≤◌}
+use mathlib.Core.Path.{◌≡◌}
 use lib.ListN.{length, take}
-use lib.Seq.{take_all}
 use Rattle.lines.specs.Lines.{spaced, vertex_fields}
-use Rattle.lines.proofs.Fields.{more_count, within_count}
-use borrow.Author.Rules.{rules}
 use Rattle.fitting.proofs.inner.path_fits.Given as goal
 
 abbrev pub invariant-loop-i : goal.invariant-loop-i

@@ -1,4 +1,3 @@
-use borrow.Author.Rules.{rules}
 use Rattle.records.specs.Records.{byte}
 use Rattle.records.proofs.inner.byte_of.Goals as goal
 
