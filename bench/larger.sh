@@ -1,6 +1,7 @@
 #!/bin/sh
-# larger.sh SIDE [NETS]: rows of run.sh for boards of 127, 255 or 511 cells a side, on 64 nets and with 0, 30 and 40 in 100 blocked. The limits are changed in a copy of the
-# tree (target/larger-SIDE), the library is proved and built there, and the fast router is compiled with the same limit.
+# larger.sh SIDE [NETS]: rows of run.sh for boards of 127, 255 or 511 cells a side, on 64 nets and with 0, 30 and 40 in 100 blocked. The
+# limits are changed in a copy of the tree (/tmp/wexxolin-larger-SIDE: rt ci refuses a second crates.txt in a checkout), the library is
+# proved and built there, and the fast router is compiled with the same limit.
 # Of the library only the route call is built there: what route files and jobs hold has one byte for a coordinate.
 set -eu
 here=$(cd "$(dirname "$0")" && pwd)
@@ -15,34 +16,37 @@ case $side in
     255 | 511) vertex=u32 bits=32 ;; # the number of vertices must fit too, and 256 * 256 has 17 bits
     *) echo "larger.sh: the side is to be 127, 255 or 511" >&2; exit 2 ;;
 esac
-copy=$root/target/larger-$side
+copy=${TMPDIR:-/tmp}/wexxolin-larger-$side
 mkdir -p "$copy/crates" "$copy/tests"
 
 # the crates that C's route call is built on, that of its answer among them
 crates=$(sed -n 's/^\(routing\):/\1/p' "$root/crates.txt")
-rm -rf "$copy/crates" "$copy/bench" "$copy/include"
-mkdir "$copy/crates"
+rm -rf "$copy/bench" "$copy/include"
 grep -E "^($(echo $crates | tr ' ' '|')):" "$root/crates.txt" > "$copy/crates.txt"
-for crate in $crates; do
-    cp -R "$root/crates/$crate" "$copy/crates"
-    rm -rf "$copy/crates/$crate/must-fail"
+for crate in $crates wexxolin; do
+    mkdir -p "$copy/crates/$crate"
+    for part in src specs proofs; do
+        rm -rf "$copy/crates/$crate/$part"
+        [ ! -d "$root/crates/$crate/$part" ] || cp -R "$root/crates/$crate/$part" "$copy/crates/$crate"
+    done
 done
 
-# the library with that call alone: of wexxolin's first part the uses of these crates, and of the others the call's
-echo "wexxolin: $crates" >> "$copy/crates.txt"
-mkdir -p "$copy/crates/wexxolin/src" "$copy/crates/wexxolin/proofs"
-cp -R "$root/crates/wexxolin/proofs/wexxolin_route_2" "$copy/crates/wexxolin/proofs"
-awk -v RS= -v crates=" $crates " '
-    NR == 1 {
+# the library with that call alone: of wexxolin's parts before the first call the uses of std and of these crates, and of the others the call's
+echo "wexxolin staticlib: $crates" >> "$copy/crates.txt"
+mkdir -p "$copy/crates/wexxolin/proofs"
+find "$copy/crates/wexxolin/proofs" -mindepth 1 -maxdepth 1 ! -name wexxolin_route_2 -exec rm -rf {} +
+awk -v RS= -v crates=" std $crates " '
+    !/ fn / {
         n = split($0, line, "\n")
         for (k = 1; k <= n; k++) {
             crate = line[k]
-            if (!sub(/^ghost use Rattle·/, "", crate) && !sub(/^use /, "", crate)) { print line[k]; continue }
+            if (!sub(/^ghost use Rattle[.]/, "", crate) && !sub(/^use /, "", crate)) { print line[k]; continue }
             sub(/[.:].*/, "", crate)
             if (index(crates, " " crate " ")) print line[k]
         }
+        print ""
     }
-    /fn wexxolin_route_2\(/ { print "\n" $0 }' "$root/crates/wexxolin/src/lib.rt" > "$copy/crates/wexxolin/src/lib.rt"
+    / fn wexxolin_route_2\(/' "$root/crates/wexxolin/src/lib.rt" > "$copy/crates/wexxolin/src/lib.rt"
 cp -R "$root/bench" "$root/include" "$copy"
 cp "$root/tests/boards.c" "$root/tests/boards.h" "$copy/tests"
 
@@ -58,6 +62,6 @@ changed crates/board/specs/Limits.antt "largest_side = 63" "largest_side = $side
 changed crates/board/specs/Limits.antt "vertex_bits = 16" "vertex_bits = $bits"
 changed include/wexxolin.h "typedef uint16_t wexxolin_vertex;" "typedef uint${bits}_t wexxolin_vertex;"
 
+(cd "$copy/crates/wexxolin" && rt lib) >&2
 cd "$copy"
-rt staticlib wexxolin >&2
-OUT=$copy/target/outside SIDE=$side PERCENTS=${PERCENTS:-0 30 40} exec bench/run.sh "${2:-64}"
+LIBRARY=crates/wexxolin/out/libwexxolin.a OUT=$copy/outside SIDE=$side PERCENTS=${PERCENTS:-0 30 40} exec bench/run.sh "${2:-64}"

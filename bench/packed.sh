@@ -10,7 +10,7 @@ needs_counter
 OUT=${OUT:-$root/target/outside}
 export OUT
 library=${LIBRARY:-$root/target/staticlib/libwexxolin.a}
-[ -e "$library" ] || { echo "packed.sh: there is no library $library; 'rt staticlib wexxolin' makes it (or set LIBRARY)" >&2; exit 2; }
+[ -e "$library" ] || { echo "packed.sh: there is no library $library; 'make' builds it (or set LIBRARY)" >&2; exit 2; }
 mkdir -p "$OUT"
 # No repeated instructions for clearing and copying, as in run.sh
 flags="-O2 -std=c11 -Wall -Wextra -static -fno-math-errno -mmemset-strategy=libcall:-1:noalign -mmemcpy-strategy=libcall:-1:noalign"

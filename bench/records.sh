@@ -10,7 +10,7 @@ needs_counter
 OUT=${OUT:-$root/target/outside}
 export OUT
 library=${LIBRARY:-$root/target/staticlib/libwexxolin.a}
-[ -e "$library" ] || { echo "records.sh: there is no library $library; 'rt staticlib wexxolin' makes it (or set LIBRARY)" >&2; exit 2; }
+[ -e "$library" ] || { echo "records.sh: there is no library $library; 'make' builds it (or set LIBRARY)" >&2; exit 2; }
 mkdir -p "$OUT"
 flags="-O2 -std=c11 -Wall -Wextra -static -fno-math-errno"
 $CC $flags -o "$OUT/records-fast" "$here/records.c" "$root/tests/boards.c" "$here/fast.c" "$here/fast_library.c"

@@ -34,7 +34,7 @@ build nets-fast ${FAST-} "$here/fast.c" "$here/fast_library.c"
 if [ "$library" != fast ]; then
     for part in $library; do
         [ -e "$part" ] && continue
-        echo "run.sh: there is no library $part; 'rt staticlib wexxolin' makes it (or set LIBRARY; LIBRARY=fast counts the fast router alone)" >&2
+        echo "run.sh: there is no library $part; 'make' builds it (or set LIBRARY; LIBRARY=fast counts the fast router alone)" >&2
         exit 2
     done
     build nets-library $library

@@ -1,24 +1,22 @@
 -- What the check hands back and leaves, step by step. Assumes nothing.
-use Prim.Native.Nat.{ℕ, zero, suc, ◌+◌, ◌*◌, ◌≤◌, ◌<◌}
-use mathlib.Core.Path.{◌≡◌, refl, sym, ap, ap₂, ◌∙◌}
+use Prim.Native.Nat.{ℕ, zero, suc, ◌+◌, ◌≤◌, ◌<◌}
+use mathlib.Core.Path.{◌≡◌, refl, ap, ◌∙◌}
 use mathlib.Core.Logic.{⊎_elim}
 use mathlib.Core.Bool.{Bool, true, false, cond}
-use mathlib.Core.List.{List, [], ◌∷◌}
+use mathlib.Core.List.{List}
 use native.Mathlib.Omega.{arith}
 use native.Mathlib.Numerals.{add-one}
 use lib.Dec.{ltb}
-use lib.ListN.{length}
-use borrow.Author.Tests.{lt-ltb, le-ltb, ltb-false}
+use borrow.Author.Tests.{ltb-false}
 use Rattle.laws.proofs.Tests.{order}
-use Rattle.board.specs.Board.{vertices}
-use Rattle.board.specs.Handed.{Verdict, passes, refused, row, and_then, Handed, answer, unless, judged}
+use Rattle.board.specs.Handed.{passes, refused, judged}
 use Rattle.board.proofs.Verdicts.{no_pass}
 use Rattle.records.specs.Records.{in_order}
 use Rattle.records.proofs.InOrder.{first_refused}
 use Rattle.refusals.specs.declared.JobRefusal.{JobRefusal}
 use Rattle.refusals.specs.Refusals as job-refusals
 use Rattle.refusals.proofs.Refusing.{listed}
-use Rattle.kinds.specs.Job.{nets, width, height, board_cells}
+use Rattle.kinds.specs.Job.{nets, board_cells}
 use Rattle.faults.specs.Faults.{job_rows}
 use Rattle.tracks.specs.declared.RouteRefusal.{RouteRefusal}
 use Rattle.tracks.specs.declared.RouteRefusal.TheVariants as route-refusal
@@ -27,12 +25,11 @@ use Rattle.tracks.specs.Faults as route-faults
 use Rattle.tracks.specs.Answers.{laid}
 use Rattle.bureau.specs.declared.CheckAnswer.{CheckAnswer}
 use Rattle.bureau.specs.declared.CheckAnswer.TheVariants as said
-use Rattle.bureau.specs.declared.Fault.{Fault}
 use Rattle.bureau.specs.Paths.{place_row}
 use Rattle.bureau.specs.Nets.{job_board, job_net, points_for, odd_row, net_row, nets_rows, units_of, legs_of}
-use Rattle.bureau.specs.Answers.{Nets, no_nets, handed_check, is_jobs, is_refused, Searching, Slices, is_work_short, work_row, is_result_short, room_rows, early_rows, check_rows}
-use Rattle.bureau.specs.Answers.{check_row, laid_if, after_net, after_nets, work_if, slices_after, Checked}
-use Rattle.bureau.specs.Inner.{fault_row, NetsChecked}
+use Rattle.bureau.specs.Answers.{no_nets, handed_check, is_jobs, is_refused, Searching, Slices, room_rows, early_rows, check_rows}
+use Rattle.bureau.specs.Answers.{check_row, after_net, after_nets, slices_after, Checked}
+use Rattle.bureau.specs.Inner.{NetsChecked}
 
 -- ---- a row that names a place, where there is none
 

@@ -1,8 +1,6 @@
 -- Small paths on document 01's board of 2 by 2 with (1, 0) blocked, by computation: each row at its boundary. Assumes nothing.
-use Prim.Native.Nat.{ℕ}
 use mathlib.Core.Path.{◌≡◌, refl}
 use mathlib.Core.List.{List, [], ◌∷◌}
-use lib.ListN.{length}
 use Rattle.laws.specs.Below.{every, first_where}
 use Rattle.board.specs.Board.{Board, board, blocked}
 use Rattle.board.specs.Handed.{Verdict, passes, refused}

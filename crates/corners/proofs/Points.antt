@@ -1,20 +1,19 @@
 -- A path's vertices as points: which are off every board, what the call answers, and that a point is its vertex. Assumes nothing.
 use Prim.Native.Nat.{ℕ, ◌+◌, ◌*◌, ◌≤◌, ◌<◌}
-use mathlib.Core.Path.{◌≡◌, refl, sym, ap, ◌∙◌}
-use mathlib.Core.Bool.{Bool, true, false, not, ◌||◌}
+use mathlib.Core.Path.{◌≡◌, sym, ap, ◌∙◌}
+use mathlib.Core.Bool.{Bool, true, false, ◌||◌}
 use mathlib.Core.List.{List, ◌++◌}
 use native.Mathlib.Omega.{arith}
 use lib.Dec.{ltb}
 use lib.ListN.{length, get_or, drop}
 use borrow.Author.Tests.{ltb-false, lt-ltb, le-ltb}
-use Rattle.laws.specs.Below.{some, first_where}
+use Rattle.laws.specs.Below.{first_where}
 use Rattle.laws.proofs.Tests.{or_neither}
 use Rattle.laws.proofs.Below.{none_more, first_here, first_before, some_first, some_none}
 use Rattle.board.specs.Limits.{largest_side}
 use Rattle.board.specs.Board.{number_of, column_of, row_of}
 use Rattle.board.specs.Handed.{Verdict, passes, refused, side_fits}
-use Rattle.board.proofs.Numbers.{number_back, column_on, row_on}
-use Rattle.bits.specs.Packed.{entries}
+use Rattle.board.proofs.Numbers.{number_back, row_on}
 use Rattle.packed.specs.Answers.{slice_after}
 use Rattle.bits.proofs.Entries.{entries_length, entries_at}
 use Rattle.corners.specs.Corners.{columns, rows, has_off, point_rows, PointsTold}

@@ -1,5 +1,5 @@
 -- A path's vertex numbers as points, and what the call for it hands back.
-use Rattle.std.specs.Prelude.{ℕ, ◌≡◌, Bool, true, false, not, ◌||◌, List, ltb, length, get_or}
+use Rattle.std.specs.Prelude.{ℕ, ◌≡◌, Bool, not, ◌||◌, List, ltb, length, get_or}
 use Rattle.laws.specs.Below.{some}
 use Rattle.board.specs.Limits.{largest_side}
 use Rattle.board.specs.Board.{column_of, row_of}

@@ -1,6 +1,6 @@
 -- The judgement of one record, by its type, and of the records in order. Assumes nothing.
 use Prim.Native.Nat.{ℕ, zero, suc, ◌+◌, ◌%◌, ◌≤◌, ◌<◌}
-use mathlib.Core.Path.{◌≡◌, refl, sym, ap, ◌∙◌}
+use mathlib.Core.Path.{◌≡◌, refl, ap, ◌∙◌}
 use mathlib.Core.Bool.{Bool, true, false, not, ◌&&◌}
 use mathlib.Core.List.{List, [], ◌∷◌}
 use native.Mathlib.Omega.{arith}
@@ -12,9 +12,9 @@ use lib.ListN.{length}
 use borrow.Author.Tests.{le-ltb, eq-eqb, ne_eqb}
 use Rattle.laws.specs.Below.{how_many}
 use Rattle.laws.proofs.Below.{many_le, some_many}
-use Rattle.board.specs.Handed.{Verdict, passes, refused, row, and_then, Handed, answer, unless, judged, side_fits}
+use Rattle.board.specs.Handed.{Verdict, passes, refused, row, and_then, Handed, answer, judged, side_fits}
 use Rattle.board.proofs.Verdicts.{row_within, then_within}
-use Rattle.records.specs.Records.{record_bytes, records, byte, length_row, in_order, unused_row}
+use Rattle.records.specs.Records.{record_bytes, records, byte, in_order, unused_row}
 use Rattle.records.proofs.Stray.{unused_within}
 use Rattle.records.proofs.InOrder.{first_refused, order_within}
 use Rattle.refusals.specs.declared.JobRefusal.{JobRefusal}
@@ -23,7 +23,7 @@ use Rattle.steps.specs.declared.Progress.{Progress}
 use Rattle.steps.specs.declared.Step.{Step}
 use Rattle.steps.specs.declared.Step.TheVariants.{Next, Refused}
 use Rattle.steps.specs.contracts.Step.{the_type}
-use Rattle.kinds.specs.Job.{longest_job, is_board, is_keepout, is_net, is_unknown, used_by, coordinate, width, height, left}
+use Rattle.kinds.specs.Job.{longest_job, is_net, is_unknown, used_by, coordinate, width, height, left}
 use Rattle.kinds.specs.Job.{top, right, bottom, net_at}
 use Rattle.refusals.specs.Refusals.{refusal_row}
 use Rattle.faults.specs.Faults.{is_misplaced, is_late, is_oversized, is_bad_keepout, net_before, is_unordered}

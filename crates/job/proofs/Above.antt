@@ -10,7 +10,7 @@ use borrow.Author.Tests.{ltb-false, leb-false}
 use Rattle.laws.proofs.Tests.{and_both}
 use Rattle.board.specs.Board.{board}
 use Rattle.board.specs.Inner.{Sound}
-use Rattle.board.specs.Handed.{Verdict, passes, row, Handed, answer, board_rows, leg_rows}
+use Rattle.board.specs.Handed.{passes, row, Handed, answer, board_rows, leg_rows}
 use Rattle.board.proofs.Verdicts.{row_passes, both_pass, passes_on, row_within, then_within}
 use Rattle.board.proofs.Rows.{board_sound, rows_pass, ends_pass}
 use Rattle.job.specs.declared.BoardAnswer.TheVariants.{Board}
@@ -19,7 +19,7 @@ use Rattle.kinds.specs.Job.{width, height, board_cells, Net, net_at, nets, net_r
 use Rattle.faults.specs.Faults.{job_rows}
 use Rattle.job.specs.Answers.{Sides, no_sides, handed_board, board_row, board_after, BoardRead, no_net, handed_net, net_row}
 use Rattle.faults.specs.Inner.{Accepted}
-use Rattle.refusals.proofs.Refusing.{Numbered, answered}
+use Rattle.refusals.proofs.Refusing.{answered}
 use Rattle.faults.proofs.Accepted.{width_fits, height_fits, start_on, goal_on}
 use Rattle.painting.proofs.Grid.{cells_length, cells_bits}
 use Rattle.netlist.proofs.Nets.{net_record_below, net_record_is}

@@ -6,7 +6,7 @@ use native.Mathlib.Omega.{arith}
 use lib.ListN.{length, drop}
 use borrow.Author.Tests.{eqb-false, lt-ltb, le-ltb, ne_eqb}
 use Rattle.board.specs.Limits.{largest_side}
-use Rattle.board.specs.Handed.{Handed, answer, row}
+use Rattle.board.specs.Handed.{Handed}
 use Rattle.board.proofs.Rows.{cells_few}
 use Rattle.records.specs.Records.{records}
 use Rattle.steps.specs.declared.Progress.{Progress}

@@ -2,24 +2,23 @@
 use Prim.Native.Nat.{ℕ, zero, suc, ◌+◌, ◌-◌, ◌≤◌, ◌<◌}
 use mathlib.Core.Path.{◌≡◌, refl, sym, ap, ◌∙◌}
 use mathlib.Core.Logic.{◌≢◌, ⊎_elim}
-use mathlib.Core.Bool.{Bool, true, false, not, ◌&&◌, ◌||◌, cond, true≢false}
+use mathlib.Core.Bool.{Bool, true, false, ◌&&◌, ◌||◌, cond, true≢false}
 use mathlib.Core.List.{List, [], ◌∷◌}
 use native.Mathlib.Omega.{arith}
 use lib.Dec.{ltb, eqb}
-use lib.ListN.{length, get_or}
-use borrow.Author.Tests.{eqb-true, eqb-false, eq-eqb, ne_eqb, lt-ltb, le-ltb, ltb-true, not-false}
-use Rattle.laws.specs.Below.{some, first_where}
+use lib.ListN.{length}
+use borrow.Author.Tests.{eqb-true, eqb-false, eq-eqb, ne_eqb, lt-ltb, ltb-true, not-false}
 use Rattle.laws.proofs.Tests.{order, bool_cases, and_left, and_right, or_left, or_right, or_cases, same_test}
-use Rattle.laws.proofs.Below.{first_le, first_passes, first_before, some_none}
+use Rattle.laws.proofs.Below.{first_passes, first_before, some_none}
 use Rattle.board.specs.Handed.{passes}
 use Rattle.records.specs.Records.{records, in_order, is_in}
-use Rattle.tracks.specs.Tracks.{Point, Route, route, is_point, net_of, place_of, point_of, with_point, with_record, routes_from, routes_in}
-use Rattle.tracks.specs.Faults.{record_rows, has_earlier, is_first_wrong, is_net_wrong, is_later_wrong, is_none_wrong, is_wrong}
+use Rattle.tracks.specs.Tracks.{Point, Route, is_point, net_of, place_of, point_of, with_point, with_record, routes_from, routes_in}
+use Rattle.tracks.specs.Faults.{record_rows, has_earlier, is_first_wrong, is_net_wrong, is_wrong}
 use Rattle.tracks.specs.Layout.{numbers_of}
 use Rattle.tracks.proofs.Before.{passed, rising}
 use Rattle.tracks.proofs.Trips as trips
 use Rattle.tracks.proofs.Trips.{After, after, Led, some_leads}
-use Rattle.bureau.specs.Paths.{point, point_at}
+use Rattle.bureau.specs.Paths.{point_at}
 use Rattle.bureau.specs.Nets.{points_for, in_routes}
 use Rattle.bureau.specs.Inner.{first_record, Run, Stretch, LastOf}
 

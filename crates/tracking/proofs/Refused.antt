@@ -1,5 +1,5 @@
 -- A refusal of a route file is its number and its places. Assumes nothing.
-use mathlib.Core.Path.{◌≡◌, refl, ap₂, ap, ◌∙◌}
+use mathlib.Core.Path.{◌≡◌, refl}
 use Prim.Native.Nat.{ℕ}
 use Rattle.board.specs.Handed.{refused, number_in, place_in, second_in}
 use Rattle.tracks.specs.declared.RouteRefusal.{RouteRefusal}

@@ -1,16 +1,16 @@
 -- What is wrong with a record after records that pass: only the one before it matters. Assumes nothing.
 use Prim.Native.Nat.{ℕ, zero, suc, ◌+◌, ◌-◌, ◌≤◌, ◌<◌}
-use mathlib.Core.Path.{◌≡◌, refl, sym, ap, ◌∙◌}
+use mathlib.Core.Path.{◌≡◌, refl, sym, ◌∙◌}
 use mathlib.Core.Logic.{⊎_elim}
-use mathlib.Core.Bool.{Bool, true, false, not, ◌&&◌, ◌||◌, cond}
+use mathlib.Core.Bool.{Bool, true, false, not, ◌&&◌, ◌||◌}
 use mathlib.Core.List.{List}
 use native.Mathlib.Omega.{arith}
 use lib.Dec.{ltb, eqb, eqb-suc-zero}
-use borrow.Author.Tests.{not-true, not-false, ltb-false, eqb-true, eqb-false, eq-eqb, ne_eqb}
+use borrow.Author.Tests.{not-false, ltb-false, eqb-true, eqb-false, eq-eqb, ne_eqb}
 use Rattle.laws.specs.Below.{some}
-use Rattle.laws.proofs.Tests.{order, bool_cases, or_neither, or_right, or_false}
+use Rattle.laws.proofs.Tests.{bool_cases, or_neither, or_right, or_false}
 use Rattle.laws.proofs.Below.{some_none}
-use Rattle.board.specs.Handed.{Verdict, passes, refused, row, and_then}
+use Rattle.board.specs.Handed.{Verdict, passes, row}
 use Rattle.board.proofs.Verdicts.{row_passes, both_pass}
 use Rattle.records.specs.Records.{record_bytes, byte, in_order, stray_byte, unused_row}
 use Rattle.records.proofs.Stray.{unused_passes}

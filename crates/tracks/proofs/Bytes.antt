@@ -1,19 +1,17 @@
 -- A file as its records' bytes: eight at a time, and what those of a record that passes are. Assumes nothing.
 use Prim.Native.Nat.{ℕ, zero, suc, ◌+◌, ◌*◌, ◌/◌, ◌%◌, ◌≤◌, ◌<◌}
 use mathlib.Core.Path.{◌≡◌, refl, sym, ap, ◌∙◌}
-use mathlib.Core.Logic.{⊎_elim}
-use mathlib.Core.Bool.{Bool, true, false, not, ◌&&◌, ◌||◌}
+use mathlib.Core.Bool.{true, false, not}
 use mathlib.Core.List.{List, [], ◌∷◌, ◌++◌}
 use native.Mathlib.Nat.{mul-add-mod_self_right, mod-eq_of_lt, div-eq_of_lt-le}
 use native.Mathlib.Omega.{arith}
-use lib.Dec.{ltb, eqb}
+use lib.Dec.{ltb}
 use lib.ListN.{length, get_or, drop, length-append}
 use lib.Seq.{drop-cons, get_or-append-add}
 use borrow.Author.Tests.{not-false, ltb-false, eqb-true}
-use Rattle.laws.specs.Below.{first_where}
 use Rattle.laws.proofs.Below.{first_before}
 use Rattle.records.specs.Records.{record_bytes, records, byte, is_in, is_stray_byte, stray_byte}
-use Rattle.tracks.specs.Tracks.{Point, point_record, none_record, is_point, is_none, net_of, place_of, point_of}
+use Rattle.tracks.specs.Tracks.{point_record, none_record, is_point, net_of, place_of, point_of}
 use Rattle.tracks.specs.Faults.{used_by}
 use Rattle.tracks.proofs.Before.{Clean, none_is}
 

@@ -2,22 +2,21 @@
 use Prim.Native.Nat.{ℕ, zero, suc, ◌+◌, ◌*◌, ◌/◌, ◌%◌, ◌≤◌, ◌<◌}
 use mathlib.Core.Path.{◌≡◌, refl, sym, ap, subst, ◌∙◌}
 use mathlib.Core.Logic.{⊎_elim}
-use mathlib.Core.Bool.{Bool, true, false, not, ◌&&◌, ◌||◌, cond}
+use mathlib.Core.Bool.{Bool, true, false, not, ◌&&◌, ◌||◌}
 use mathlib.Core.List.{List, [], ◌∷◌, ◌++◌, append_assoc}
 use native.Mathlib.Nat.{div-add-mod', mod-eq_of_lt}
-use native.Mathlib.Numerals.{add-one}
 use native.Mathlib.Omega.{arith}
 use lib.Dec.{ltb, eqb, eqb-suc-zero}
 use lib.ListN.{length, get_or, length-append, get_or-append}
 use lib.Seq.{get_or-append-add}
 use borrow.Author.Tests.{lt-ltb, le-ltb, eq-eqb, ne_eqb}
 use Rattle.laws.specs.Below.{first_where}
-use Rattle.laws.proofs.Tests.{order, bool_cases, or_right}
-use Rattle.board.specs.Handed.{Verdict, passes, refused, row, and_then}
+use Rattle.laws.proofs.Tests.{order, or_right}
+use Rattle.board.specs.Handed.{passes, refused, row}
 use Rattle.records.specs.Records.{record_bytes, byte, in_order, is_in, is_stray_byte, stray_byte, unused_row}
 use Rattle.records.proofs.InOrder.{one_more}
 use Rattle.tracks.specs.Tracks.{Point, point_record, none_record, points_from, net_records, is_point, net_of, place_of}
-use Rattle.tracks.specs.Faults.{is_unknown, used_by, net_before, is_wrong, record_rows}
+use Rattle.tracks.specs.Faults.{is_unknown, used_by, net_before, record_rows}
 use Rattle.tracks.specs.Inner.{next_place, wrong_after, records_for}
 use Rattle.tracks.proofs.Before.{wrong_is}
 

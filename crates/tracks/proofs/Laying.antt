@@ -1,12 +1,12 @@
 -- Routes laid out in slices, and slices as routes: the one undoes the other. Assumes nothing.
-use Prim.Native.Nat.{ℕ, zero, suc, ◌+◌, ◌*◌, ◌-◌, ◌≤◌, ◌<◌}
+use Prim.Native.Nat.{ℕ, zero, suc, ◌+◌, ◌≤◌}
 use mathlib.Core.Path.{◌≡◌, refl, sym, ap, ap₂, ◌∙◌}
 use mathlib.Core.List.{List, [], ◌∷◌, ◌++◌, append_assoc, append-nil}
 use native.Mathlib.Omega.{arith}
 use lib.ListN.{length, get_or, take, drop, length-append, length-drop}
 use lib.Seq.{take_all, take-suc, take-add, get_or-drop, take_at, drop_at}
 use Rattle.tracks.specs.Tracks.{Point, Route, route, net_records, file_of}
-use Rattle.tracks.specs.Layout.{Slices, slices, numbers_of, counts_of, each, all, xs_of, ys_of, laid_out, points_at}
+use Rattle.tracks.specs.Layout.{Slices, numbers_of, counts_of, each, all, xs_of, ys_of, laid_out, points_at}
 use Rattle.tracks.specs.Layout.{points_before, route_at, routes_up_to, routes_of}
 
 -- ---- one more route at the end

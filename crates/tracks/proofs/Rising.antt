@@ -1,5 +1,5 @@
 -- The file of routes that passes: no net follows itself, and no path is too long. Assumes nothing.
-use Prim.Native.Nat.{ℕ, zero, suc, ◌+◌, ◌*◌, ◌/◌, ◌%◌, ◌-◌, ◌≤◌, ◌<◌}
+use Prim.Native.Nat.{ℕ, zero, suc, ◌+◌, ◌*◌, ◌%◌, ◌-◌, ◌≤◌, ◌<◌}
 use mathlib.Core.Path.{◌≡◌, refl, sym, ap, ◌∙◌}
 use mathlib.Core.Logic.{⊎_elim}
 use mathlib.Core.List.{List, [], ◌∷◌, ◌++◌, append_assoc}
@@ -7,10 +7,10 @@ use native.Mathlib.Omega.{arith}
 use lib.ListN.{length, length-append}
 use borrow.Author.Tests.{ne_eqb}
 use Rattle.laws.proofs.Tests.{order}
-use Rattle.board.specs.Handed.{passes, refused}
+use Rattle.board.specs.Handed.{passes}
 use Rattle.board.proofs.Verdicts.{no_pass}
 use Rattle.records.specs.Records.{records, in_order}
-use Rattle.records.proofs.InOrder.{none_yet, each_passes}
+use Rattle.records.proofs.InOrder.{each_passes}
 use Rattle.tracks.specs.Tracks.{Route, net_records, file_of}
 use Rattle.tracks.specs.Faults.{net_before, record_rows}
 use Rattle.tracks.proofs.Before.{prefix}

@@ -1,25 +1,23 @@
 -- How many nets and points a file that passes tells of, counted record by record. Assumes nothing.
-use Prim.Native.Nat.{ℕ, zero, suc, ◌+◌, ◌≤◌, ◌<◌}
+use Prim.Native.Nat.{ℕ, zero, suc, ◌+◌, ◌<◌}
 use mathlib.Core.Path.{◌≡◌, refl, sym, ap, ◌∙◌}
 use mathlib.Core.Logic.{⊎_elim}
-use mathlib.Core.Bool.{Bool, true, false, not}
-use mathlib.Core.List.{List, [], ◌∷◌, ◌++◌}
+use mathlib.Core.Bool.{Bool, true, false}
+use mathlib.Core.List.{List, [], ◌∷◌}
 use native.Mathlib.Omega.{arith}
 use lib.Dec.{eqb}
-use lib.ListN.{length, length-append}
+use lib.ListN.{length}
 use borrow.Author.Tests.{eq-eqb, ne_eqb, eqb-false}
 use Rattle.laws.specs.Below.{as_number, how_many}
 use Rattle.laws.proofs.Tests.{bool_cases}
 use Rattle.laws.proofs.Below.{many_same}
 use Rattle.board.specs.Handed.{passes}
 use Rattle.records.specs.Records.{records, in_order}
-use Rattle.records.proofs.InOrder.{none_yet}
-use Rattle.tracks.specs.Tracks.{Point, Route, route, is_point, net_of, place_of, point_of, with_point, with_record, routes_from, routes_in}
-use Rattle.tracks.specs.Faults.{net_before, record_rows}
+use Rattle.tracks.specs.Tracks.{Point, Route, is_point, net_of, point_of, with_point, with_record, routes_from, routes_in}
+use Rattle.tracks.specs.Faults.{record_rows}
 use Rattle.tracks.specs.Layout.{numbers_of, each, all}
 use Rattle.tracks.specs.Inner.{begins}
 use Rattle.tracks.proofs.Before.{passed, clean_net}
-use Rattle.tracks.proofs.Laying.{each_length}
 use Rattle.tracks.proofs.Trips as trips
 use Rattle.tracks.proofs.Trips.{After, after, Led, some_leads}
 

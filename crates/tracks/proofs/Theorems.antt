@@ -1,7 +1,7 @@
 -- What is true of the reader and the writer together: each undoes the other, for all that each accepts. Assumes nothing.
-use Prim.Native.Nat.{ℕ, ◌+◌, ◌*◌, ◌/◌, ◌%◌, ◌≤◌, ◌<◌}
+use Prim.Native.Nat.{ℕ, ◌*◌, ◌%◌, ◌≤◌, ◌<◌}
 use mathlib.Core.Path.{◌≡◌, refl, sym, ap, ap₂, ◌∙◌}
-use mathlib.Core.Bool.{Bool, true, false, not, ◌||◌}
+use mathlib.Core.Bool.{false, not, ◌||◌}
 use mathlib.Core.List.{List, ◌++◌}
 use native.Mathlib.Omega.{arith}
 use lib.Dec.{ltb, eqb}
@@ -9,8 +9,8 @@ use lib.ListN.{length, get_or, take, drop}
 use lib.Seq.{take_at, take_all, length-take-le}
 use borrow.Author.Tests.{not-false, ltb-false, eqb-true, le-ltb}
 use Rattle.laws.proofs.Tests.{or_neither}
-use Rattle.board.specs.Handed.{Verdict, passes, refused, row, and_then, Handed, answer}
-use Rattle.board.proofs.Verdicts.{row_passes, both_pass, Within, row_within, then_within}
+use Rattle.board.specs.Handed.{Verdict, passes, row, Handed, answer}
+use Rattle.board.proofs.Verdicts.{row_passes, both_pass, row_within, then_within}
 use Rattle.records.specs.Records.{record_bytes, records, byte, length_row, in_order, unused_row}
 use Rattle.records.proofs.Stray.{unused_within}
 use Rattle.records.proofs.InOrder.{order_within}

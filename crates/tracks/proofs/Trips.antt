@@ -14,7 +14,7 @@ use Rattle.records.specs.Records.{record_bytes, records, byte, in_order}
 use Rattle.records.proofs.InOrder.{none_yet}
 use Rattle.tracks.specs.Tracks.{Point, Route, route, point_record, none_record, points_from, net_records, file_of}
 use Rattle.tracks.specs.Tracks.{is_point, net_of, place_of, point_of, with_point, with_record, routes_from, routes_in}
-use Rattle.tracks.specs.Faults.{is_wrong, record_rows}
+use Rattle.tracks.specs.Faults.{record_rows}
 use Rattle.tracks.specs.Inner.{next_place, wrong_after}
 use Rattle.tracks.proofs.Before.{Clean, prefix, passed, wrong_is}
 use Rattle.tracks.proofs.Bytes.{bytes_of, record_drop, point_bytes, none_bytes, byte_shift, records_shift}

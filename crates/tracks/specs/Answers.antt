@@ -8,7 +8,7 @@ use Rattle.tracks.specs.declared.WriteAnswer.{WriteAnswer}
 use Rattle.tracks.specs.declared.WriteAnswer.TheVariants as writing
 use Rattle.tracks.specs.Tracks.{file_of, routes_in}
 use Rattle.tracks.specs.Faults.{file_rows, refusal_row}
-use Rattle.tracks.specs.Layout.{Slices, slices, numbers_of, counts_of, xs_of, ys_of, laid_out, points_before, routes_of}
+use Rattle.tracks.specs.Layout.{Slices, slices, numbers_of, xs_of, laid_out, points_before, routes_of}
 
 -- a slice into which this was written: what lies beyond is kept
 abbrev pub laid : (written before : List ℕ) → List ℕ

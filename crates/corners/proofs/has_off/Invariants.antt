@@ -1,13 +1,8 @@
 -- `corners::has_off` looks at each vertex. The loop's invariant: none before is off.
-use mathlib.Core.Path.{◌≡◌, refl, sym}
-use Prim.Native.Nat.{◌-◌, ◌≤◌, ◌<◌}
-use native.Mathlib.Omega.{arith}
-use borrow.Author.Rules.{rules}
-use lib.ListN.{length, get_or}
-use Rattle.laws.proofs.Below.{none_yet}
-use Rattle.board.specs.Limits.{largest_side}
-use Rattle.board.specs.Board.{row_of}
-use Rattle.corners.proofs.Points.{is_off, OnBefore, off_here, on_next, none_off}
+use mathlib.Core.Path.{◌≡◌}
+use Prim.Native.Nat.{◌-◌, ◌≤◌}
+use lib.ListN.{length}
+use Rattle.corners.proofs.Points.{OnBefore}
 use Rattle.corners.proofs.has_off.Given as goal
 
 abbrev pub invariant-loop-k : goal.invariant-loop-k

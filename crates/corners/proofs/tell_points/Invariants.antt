@@ -1,15 +1,10 @@
 -- `corners::tell_points` writes point after point. The loop's invariant: those before are written.
-use mathlib.Core.Path.{◌≡◌, refl, ap, ◌∙◌}
+use mathlib.Core.Path.{◌≡◌}
 use mathlib.Core.List.{◌++◌}
-use Prim.Native.Nat.{ℕ, ◌-◌, ◌≤◌, ◌<◌}
-use native.Mathlib.Omega.{arith}
-use borrow.Author.Rules.{rules}
+use Prim.Native.Nat.{ℕ, ◌-◌, ◌≤◌}
 use lib.ListN.{length, get_or, drop}
 use Rattle.board.specs.Board.{column_of, row_of}
-use Rattle.board.proofs.Numbers.{column_on}
 use Rattle.bits.specs.Packed.{entries}
-use Rattle.bits.proofs.Entries.{entries_none, kept_length, written_next}
-use Rattle.corners.proofs.Points.{is_on_lem}
 use Rattle.corners.proofs.tell_points.Given as goal
 
 abbrev pub invariant-loop-k : goal.invariant-loop-k

@@ -1,15 +1,9 @@
 -- `filling::first_filling` looks at the last byte of each row. The loop's invariant: no byte of the rows before has a
 -- filling bit set.
 use mathlib.Core.Path.{◌≡◌}
-use Prim.Native.Nat.{ℕ, ◌+◌, ◌*◌, ◌-◌, ◌%◌, ◌^◌, ◌≤◌, ◌<◌}
-use native.Mathlib.Nat.{mul-le-mul}
-use native.Mathlib.Omega.{arith}
-use borrow.Author.Rules.{rules}
-use lib.ListN.{length, get_or}
-use lib.Pow.{pow_pos}
+use Prim.Native.Nat.{◌+◌, ◌*◌, ◌-◌, ◌≤◌}
 use Rattle.laws.specs.Below.{first_where}
 use Rattle.bits.specs.Packed.{row_bytes, has_filling}
-use Rattle.bits.proofs.Rows.{row_room, power, filling_begins, filling_found, filling_passed, filling_none}
 use Rattle.filling.proofs.first_filling.Given as goal
 
 abbrev pub invariant-loop-end : goal.invariant-loop-end

@@ -1,5 +1,4 @@
 use mathlib.Core.Path.{◌≡◌, refl, sym, ap, ◌∙◌}
-use borrow.Author.Rules.{rules}
 use Prim.Native.Nat.{ℕ}
 use Rattle.board.specs.Handed.{passes}
 use Rattle.packed.specs.declared.CountAnswer.TheVariants.{Blocked}
@@ -13,43 +12,35 @@ use Rattle.packed.proofs.count_blocked.Goals as goal
 
 pub returns-in-Refused : goal.returns-in-Refused
 returns-in-Refused c =
-    let k = c in
-    counted_refused _ _ _ c.in-Refused.why (sym (ap verdict c.in-Refused.is) ∙ k.check_packed-checked.ensures)
-
-abbrev start : goal.In_default → goal.In_default
-start c = c
+    counted_refused _ _ _ c.in-Refused.why (sym (ap verdict c.in-Refused.is) ∙ c.check_packed-checked.ensures)
 
 -- it passes the checks
 passed : (c : goal.In_default) →
-    let a = (start c).args in packed_rows a.packed.now a.width a.height ≡ passes
+    let a = c.args in packed_rows a.packed.now a.width a.height ≡ passes
 passed c = sym c.check_packed-checked.ensures ∙ ap verdict c.in_default.is
 
-known : (c : goal.In_default) → let a = (start c).args in Known a.packed.now a.width a.height
+known : (c : goal.In_default) → let a = c.args in Known a.packed.now a.width a.height
 known c = packed_known _ _ _ (passed c)
 
 pub count_bits-requires : goal.count_bits-requires
 count_bits-requires c =
-    let a = (start c).args in
+    let a = c.args in
     let k = (known c).sized in
     rw k.full (bytes_few a.width a.height refl k.sides)
 
-abbrev start_2 : goal.After-count_bits → goal.After-count_bits
-start_2 c = c
-
 -- it passes the checks
 passed_2 : (c : goal.After-count_bits) →
-    let a = (start_2 c).args in packed_rows a.packed.now a.width a.height ≡ passes
+    let a = c.args in packed_rows a.packed.now a.width a.height ≡ passes
 passed_2 c = sym c.check_packed-checked.ensures ∙ ap verdict c.in_default.is
 
-known_2 : (c : goal.After-count_bits) → let a = (start_2 c).args in Known a.packed.now a.width a.height
+known_2 : (c : goal.After-count_bits) → let a = c.args in Known a.packed.now a.width a.height
 known_2 c = packed_known _ _ _ (passed_2 c)
 
 pub returns : goal.returns
 returns c =
-    let t = c in
-    let a = (start_2 t).args in
-    let k = known_2 t in
+    let a = c.args in
+    let k = known_2 c in
     ap (λ (n : ℕ). handed_count (Blocked n))
     (c.count_bits.ensures
     ∙ bits_blocked a.packed.now a.width a.height k.sized.sides.wide k.sized.full k.clean)
-    ∙ counted_done _ _ _ (passed_2 t)
+    ∙ counted_done _ _ _ (passed_2 c)

@@ -1,7 +1,6 @@
 use mathlib.Core.Path.{◌≡◌, sym, ap, ◌∙◌}
 use Prim.Native.Nat.{ℕ, ◌*◌, ◌≤◌, ◌<◌}
 use native.Mathlib.Omega.{arith}
-use borrow.Author.Rules.{rules}
 use lib.ListN.{length}
 use Rattle.board.specs.Board.{Board, board}
 use Rattle.board.specs.Handed.{passes, board_rows, refusal_row, verdict}
@@ -16,16 +15,11 @@ use Rattle.packed.proofs.write_packed.Goals as goal
 pub returns-in-Refused : goal.returns-in-Refused
 unfolding write_rows
 returns-in-Refused c =
-    let k = c in
     wrote_kept _ _ (refusal_row c.in-Refused.why) (board_refuses c.in-Refused.why) _
-    (sym (ap verdict c.in-Refused.is) ∙ k.check_board-checked.ensures)
-
--- where the checks have been made, where the call began, and the board that it is given
-abbrev start : goal.After-row_bytes → goal.After-row_bytes
-start c = c
+    (sym (ap verdict c.in-Refused.is) ∙ c.check_board-checked.ensures)
 
 abbrev asked : goal.After-row_bytes → Board
-asked c = let a = (start c).args in board a.cells.now a.width a.height
+asked c = let a = c.args in board a.cells.now a.width a.height
 
 -- it passes the checks 1 to 3
 passed : (c : goal.After-row_bytes) → board_rows (asked c) ≡ passes
@@ -36,12 +30,8 @@ overflow_mul-row_bytes c =
     let b = asked c in
     omega (arith, bytes_few b.width b.height c.row_bytes.ensures (board_sides b (passed c)))
 
--- where the checks have been made, where the call began, and the board that it is given
-abbrev start_2 : goal.Then-packed-row_bytes → goal.Then-packed-row_bytes
-start_2 c = c
-
 abbrev asked_2 : goal.Then-packed-row_bytes → Board
-asked_2 c = let a = (start_2 c).args in board a.cells.now a.width a.height
+asked_2 c = let a = c.args in board a.cells.now a.width a.height
 
 -- it passes the checks 1 to 3
 passed_2 : (c : goal.Then-packed-row_bytes) → board_rows (asked_2 c) ≡ passes
@@ -55,17 +45,12 @@ needed c = ap (λ (d : ℕ). d * (asked_2 c).height) c.row_bytes.ensures
 pub returns-then-packed-row_bytes : goal.returns-then-packed-row_bytes
 unfolding write_rows
 returns-then-packed-row_bytes c =
-    let r = c in
-    let a = (start_2 r).args in
-    let short : length a.packed.now < packed_bytes a.width a.height = omega (arith, c.if-packed-row_bytes.true, needed r) in
-    wrote_short _ _ (passed_2 r) _ _ 21 short
-
--- where the checks have been made, where the call began, and the board that it is given
-abbrev start_3 : goal.After-pack-arg-1 → goal.After-pack-arg-1
-start_3 c = c
+    let a = c.args in
+    let short : length a.packed.now < packed_bytes a.width a.height = omega (arith, c.if-packed-row_bytes.true, needed c) in
+    wrote_short _ _ (passed_2 c) _ _ 21 short
 
 abbrev asked_3 : goal.After-pack-arg-1 → Board
-asked_3 c = let a = (start_3 c).args in board a.cells.now a.width a.height
+asked_3 c = let a = c.args in board a.cells.now a.width a.height
 
 -- it passes the checks 1 to 3
 passed_3 : (c : goal.After-pack-arg-1) → board_rows (asked_3 c) ≡ passes
@@ -78,21 +63,16 @@ needed_2 c = ap (λ (d : ℕ). d * (asked_3 c).height) c.row_bytes.ensures
 
 -- the lent slice is long enough
 roomy : (c : goal.After-pack-arg-1) →
-    let a = (start_3 c).args in packed_bytes a.width a.height ≤ length a.packed.now
+    let a = c.args in packed_bytes a.width a.height ≤ length a.packed.now
 roomy c = omega (arith, c.if-packed-row_bytes.false, needed_2 c)
 
 pub pack-requires : goal.pack-requires
 pack-requires c =
-    let k = c in
-    let b = asked_3 k in
-    record { bits = board_bits b (passed_3 k); sides = (board_sides b (passed_3 k), board_full b (passed_3 k)); height_in_bounds = roomy c }
-
--- where the checks have been made, where the call began, and the board that it is given
-abbrev start_4 : goal.After-slice_known-2-1 → goal.After-slice_known-2-1
-start_4 c = c
+    let b = asked_3 c in
+    record { bits = board_bits b (passed_3 c); sides = (board_sides b (passed_3 c), board_full b (passed_3 c)); height_in_bounds = roomy c }
 
 abbrev asked_4 : goal.After-slice_known-2-1 → Board
-asked_4 c = let a = (start_4 c).args in board a.cells.now a.width a.height
+asked_4 c = let a = c.args in board a.cells.now a.width a.height
 
 -- it passes the checks 1 to 3
 passed_4 : (c : goal.After-slice_known-2-1) → board_rows (asked_4 c) ≡ passes
@@ -105,14 +85,12 @@ needed_3 c = ap (λ (d : ℕ). d * (asked_4 c).height) c.row_bytes.ensures
 
 -- the lent slice is long enough
 roomy_2 : (c : goal.After-slice_known-2-1) →
-    let a = (start_4 c).args in packed_bytes a.width a.height ≤ length a.packed.now
+    let a = c.args in packed_bytes a.width a.height ≤ length a.packed.now
 roomy_2 c = omega (arith, c.if-packed-row_bytes.false, needed_3 c)
 
 pub returns : goal.returns
 unfolding write_rows
 returns c =
-    let u = c in
-    let k = u in
-    let b = asked_4 k in
-    wrote_done _ _ (passed_4 k) _ _ 21 (roomy_2 u) (entries_length (byte_from b.cells b.width) _)
-    u.pack.ensures
+    let b = asked_4 c in
+    wrote_done _ _ (passed_4 c) _ _ 21 (roomy_2 c) (entries_length (byte_from b.cells b.width) _)
+    c.pack.ensures

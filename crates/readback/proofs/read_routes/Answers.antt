@@ -1,6 +1,5 @@
 use mathlib.Core.Path.{◌≡◌, sym, ◌∙◌}
 use mathlib.Core.Bool.{Bool, true, false}
-use borrow.Author.Rules.{rules}
 use Rattle.board.specs.Handed.{passes}
 use Rattle.records.specs.Records.{records}
 use Rattle.tracks.specs.Tracks.{routes_in}
@@ -30,77 +29,47 @@ abbrev is_too_short : goal.Then-short-xs → Bool
 is_too_short z = is_short (laid_out (routes_in (start (checked z)).args.file.now)) (lent (checked z))
 
 lacks_room : (t : goal.Then-short-xs) → is_too_short t ≡ true
-lacks_room t = let z = t in sym (short_is _ (known z) (lent (checked z))) ∙ t.if-short-xs.true
+lacks_room t = sym (short_is _ (known t) (lent (checked t))) ∙ t.if-short-xs.true
 
 pub returns-then-short-xs : goal.returns-then-short-xs
-returns-then-short-xs c = let z = c in read_short _ (known z) (lent (checked z)) (lacks_room c)
-
--- where the file has been checked, and the slices that are lent
-abbrev start_2 : goal.After-gather-arg-in-Next-3-1 → goal.After-gather-arg-in-Next-3-1
-start_2 c = c
+returns-then-short-xs c = read_short _ (known c) (lent (checked c)) (lacks_room c)
 
 abbrev lent_2 : goal.After-gather-arg-in-Next-3-1 → Slices
-lent_2 c = let a = (start_2 c).args in slices a.nets.now a.counts.now a.xs.now a.ys.now
+lent_2 c = let a = c.args in slices a.nets.now a.counts.now a.xs.now a.ys.now
 
--- the file that passed, and what the slices must hold of it
-abbrev checked_2 : goal.After-gather-arg-in-Next-3-1 → goal.After-gather-arg-in-Next-3-1
-checked_2 z = z
-
-known_2 : (z : goal.After-gather-arg-in-Next-3-1) → let file = (start_2 (checked_2 z)).args.file.now in
+known_2 : (z : goal.After-gather-arg-in-Next-3-1) → let file = z.args.file.now in
     (file_rows file ≡ passes) × (z.in-Next.sizes ≡ progress file (records file))
-known_2 z = passed _ z.in-Next.is (checked_2 z).check_routes.ensures
+known_2 z = passed _ z.in-Next.is z.check_routes.ensures
 
 abbrev is_too_short_2 : goal.After-gather-arg-in-Next-3-1 → Bool
-is_too_short_2 z = is_short (laid_out (routes_in (start_2 (checked_2 z)).args.file.now)) (lent_2 (checked_2 z))
+is_too_short_2 z = is_short (laid_out (routes_in z.args.file.now)) (lent_2 z)
 
 -- 21 lets through only slices that have room, each of them, and refuses only such that lack it
 has_room : (e : goal.After-gather-arg-in-Next-3-1) → is_too_short_2 e ≡ false
-has_room e = let z = e in sym (short_is _ (known_2 z) (lent_2 (checked_2 z))) ∙ e.if-short-xs.false
+has_room e = sym (short_is _ (known_2 e) (lent_2 e)) ∙ e.if-short-xs.false
 
 pub gather-requires : goal.gather-requires
-gather-requires c =
-    let roomy = c in
-    let z = roomy in
-    read_room _ (known_2 z) (lent_2 (checked_2 z)) (has_room roomy)
-
--- where the file has been checked, and the slices that are lent
-abbrev start_3 : goal.In-Refused → goal.In-Refused
-start_3 c = c
+gather-requires c = read_room _ (known_2 c) (lent_2 c) (has_room c)
 
 abbrev lent_3 : goal.In-Refused → Slices
-lent_3 c = let a = (start_3 c).args in slices a.nets.now a.counts.now a.xs.now a.ys.now
+lent_3 c = let a = c.args in slices a.nets.now a.counts.now a.xs.now a.ys.now
 
 pub returns-in-Refused : goal.returns-in-Refused
-returns-in-Refused c =
-    let told = c in
-    let refused = told in
-    read_refused _ (lent_3 refused) told.in-Refused.is refused.check_routes.ensures
-
--- where the file has been checked, and the slices that are lent
-abbrev start_4 : goal.After-slice_known-in-Next-4-1 → goal.After-slice_known-in-Next-4-1
-start_4 c = c
+returns-in-Refused c = read_refused _ (lent_3 c) c.in-Refused.is c.check_routes.ensures
 
 abbrev lent_4 : goal.After-slice_known-in-Next-4-1 → Slices
-lent_4 c = let a = (start_4 c).args in slices a.nets.now a.counts.now a.xs.now a.ys.now
+lent_4 c = let a = c.args in slices a.nets.now a.counts.now a.xs.now a.ys.now
 
--- the file that passed, and what the slices must hold of it
-abbrev checked_3 : goal.After-slice_known-in-Next-4-1 → goal.After-slice_known-in-Next-4-1
-checked_3 z = z
-
-known_3 : (z : goal.After-slice_known-in-Next-4-1) → let file = (start_4 (checked_3 z)).args.file.now in
+known_3 : (z : goal.After-slice_known-in-Next-4-1) → let file = z.args.file.now in
     (file_rows file ≡ passes) × (z.in-Next.sizes ≡ progress file (records file))
-known_3 z = passed _ z.in-Next.is (checked_3 z).check_routes.ensures
+known_3 z = passed _ z.in-Next.is z.check_routes.ensures
 
 abbrev is_too_short_3 : goal.After-slice_known-in-Next-4-1 → Bool
-is_too_short_3 z = is_short (laid_out (routes_in (start_4 (checked_3 z)).args.file.now)) (lent_4 (checked_3 z))
+is_too_short_3 z = is_short (laid_out (routes_in z.args.file.now)) (lent_4 z)
 
 -- 21 lets through only slices that have room, each of them, and refuses only such that lack it
 has_room_2 : (e : goal.After-slice_known-in-Next-4-1) → is_too_short_3 e ≡ false
-has_room_2 e = let z = e in sym (short_is _ (known_3 z) (lent_4 (checked_3 z))) ∙ e.if-short-xs.false
+has_room_2 e = sym (short_is _ (known_3 e) (lent_4 e)) ∙ e.if-short-xs.false
 
 pub returns-else-short-xs : goal.returns-else-short-xs
-returns-else-short-xs c =
-    let gathered = c in
-    let roomy = gathered in
-    let z = roomy in
-    read_done _ (known_3 z) (lent_4 (checked_3 z)) (has_room_2 roomy) gathered.gather.ensures
+returns-else-short-xs c = read_done _ (known_3 c) (lent_4 c) (has_room_2 c) c.gather.ensures

@@ -1,6 +1,5 @@
 use mathlib.Core.Path.{◌≡◌}
 use mathlib.Core.Bool.{false}
-use borrow.Author.Rules.{rules}
 use Rattle.board.specs.Board.{board}
 use Rattle.legs.specs.Sight.{sees}
 use Rattle.bureau.specs.Paths.{point, is_same}
@@ -15,24 +14,22 @@ unequal : (c : goal.Then-not-is_clear) → let a = c.args in is_same (point a.ax
 unequal c = c.if-ax-bx.false
 
 -- and is clear where its ends see each other
-sighted : (c : goal.Then-not-is_clear) → let s = c in let a = s.args in
+sighted : (c : goal.Then-not-is_clear) → let a = c.args in
     c.is_clear.result ≡ sees (board a.cells.now a.width a.height) a.ax a.ay a.bx a.by
-sighted c = let stop = c in clear_told stop.requires.ends_on stop.first_stop.ensures c.is_clear.ensures
+sighted c = clear_told c.requires.ends_on c.first_stop.ensures c.is_clear.ensures
 
 pub returns-then-not-is_clear : goal.returns-then-not-is_clear
-returns-then-not-is_clear c =
-    leg_unseen _ _ _ _ (unequal c) (sighted c) c.if-not-is_clear.true-raw
+returns-then-not-is_clear c = leg_unseen _ _ _ _ (unequal c) (sighted c) c.if-not-is_clear.true-raw
 
 -- a leg that goes on has a length
 unequal_2 : (c : goal.After-is_pinched) → let a = c.args in is_same (point a.ax a.ay) (point a.bx a.by) ≡ false
 unequal_2 c = c.if-ax-bx.false
 
 -- and is clear where its ends see each other
-sighted_2 : (c : goal.After-is_pinched) → let s = c in let a = s.args in
+sighted_2 : (c : goal.After-is_pinched) → let a = c.args in
     c.is_clear.result ≡ sees (board a.cells.now a.width a.height) a.ax a.ay a.bx a.by
-sighted_2 c = let stop = c in clear_told stop.requires.ends_on stop.first_stop.ensures c.is_clear.ensures
+sighted_2 c = clear_told c.requires.ends_on c.first_stop.ensures c.is_clear.ensures
 
 pub returns : goal.returns
 returns c =
-    let seen = c in
-    leg_seen _ _ _ _ (unequal_2 seen) (sighted_2 seen) seen.if-not-is_clear.false-raw c.is_pinched.ensures
+    leg_seen _ _ _ _ (unequal_2 c) (sighted_2 c) c.if-not-is_clear.false-raw c.is_pinched.ensures

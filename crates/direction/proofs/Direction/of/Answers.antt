@@ -12,25 +12,22 @@ use Rattle.direction.proofs.Direction.of.Goals as goal
 -- what the check said of the differences
 judged : (c : goal.In-Accepted) → let a = c.args in verdict c.check_differences.result ≡ difference_rows a.dx a.dy
 judged c =
-    let s = c in
-    c.check_differences.ensures ∙ narrowed (λ (dx dy : ℤ). difference_rows dx dy) s.args.dx s.args.dy s.ranges.dx s.ranges.dy
+    c.check_differences.ensures ∙ narrowed (λ (dx dy : ℤ). difference_rows dx dy) c.args.dx c.args.dy c.ranges.dx c.ranges.dy
 
 pass : (c : goal.In-Accepted) → let a = c.args in difference_rows a.dx a.dy ≡ passes
 pass c = accepted c.in-Accepted.is (judged c)
 
 pub aim-requires : goal.aim-requires
 aim-requires c =
-    let s = c in
-    let d = differences_small s.args.dx s.args.dy (pass c) in
-    let x = small_as s.args.dx d.0 in
-    let y = small_as s.args.dy d.1 in
+    let d = differences_small c.args.dx c.args.dy (pass c) in
+    let x = small_as c.args.dx d.0 in
+    let y = small_as c.args.dy d.1 in
     search rules
 
 -- what the check said of the differences
 judged_2 : (c : goal.After-aim) → let a = c.args in verdict c.check_differences.result ≡ difference_rows a.dx a.dy
 judged_2 c =
-    let s = c in
-    c.check_differences.ensures ∙ narrowed (λ (dx dy : ℤ). difference_rows dx dy) s.args.dx s.args.dy s.ranges.dx s.ranges.dy
+    c.check_differences.ensures ∙ narrowed (λ (dx dy : ℤ). difference_rows dx dy) c.args.dx c.args.dy c.ranges.dx c.ranges.dy
 
 pass_2 : (c : goal.After-aim) → let a = c.args in difference_rows a.dx a.dy ≡ passes
 pass_2 c = accepted c.in-Accepted.is (judged_2 c)
@@ -38,17 +35,15 @@ pass_2 c = accepted c.in-Accepted.is (judged_2 c)
 pub returns-in-Accepted : goal.returns-in-Accepted
 unfolding direction_row
 returns-in-Accepted c =
-    let s = c in
-    let aimed : handed_direction c.aim.result ≡ aim_row s.args.dx s.args.dy =
-    c.aim.ensures ∙ narrowed (λ (dx dy : ℤ). aim_row dx dy) s.args.dx s.args.dy s.ranges.dx s.ranges.dy in
+    let aimed : handed_direction c.aim.result ≡ aim_row c.args.dx c.args.dy =
+    c.aim.ensures ∙ narrowed (λ (dx dy : ℤ). aim_row dx dy) c.args.dx c.args.dy c.ranges.dx c.ranges.dy in
     rw (pass_2 c) aimed
 
 -- what the check said of the differences
 judged_3 : (c : goal.In-Refused) → let a = c.args in verdict c.check_differences.result ≡ difference_rows a.dx a.dy
 judged_3 c =
-    let s = c in
-    c.check_differences.ensures ∙ narrowed (λ (dx dy : ℤ). difference_rows dx dy) s.args.dx s.args.dy s.ranges.dx s.ranges.dy
+    c.check_differences.ensures ∙ narrowed (λ (dx dy : ℤ). difference_rows dx dy) c.args.dx c.args.dy c.ranges.dx c.ranges.dy
 
 pub returns-in-Refused : goal.returns-in-Refused
 unfolding direction_row
-returns-in-Refused c = let k = c in refusal_handed no_direction k.in-Refused.why _ (refused_row k.in-Refused.is (judged_3 k))
+returns-in-Refused c = refusal_handed no_direction c.in-Refused.why _ (refused_row c.in-Refused.is (judged_3 c))

@@ -1,15 +1,14 @@
 use mathlib.Core.Path.{◌≡◌, refl, sym, ap, ◌∙◌}
-use Prim.Native.Nat.{◌-◌, ◌≤◌, ◌<◌}
+use Prim.Native.Nat.{◌<◌}
 use native.Mathlib.Omega.{arith}
 use lib.ListN.{length}
-use borrow.Author.Rules.{rules}
 use borrow.Author.Tests.{lt-ltb, le-ltb, eq-eqb, ne_eqb}
 use Rattle.laws.specs.Below.{how_many}
-use Rattle.board.specs.Handed.{passes, answer}
-use Rattle.records.specs.Records.{records, in_order}
+use Rattle.board.specs.Handed.{answer}
+use Rattle.records.specs.Records.{records}
 use Rattle.records.proofs.InOrder.{none_yet, one_more}
 use Rattle.kinds.specs.Job.{longest_job}
-use Rattle.faults.specs.Faults.{net_before, record_rows, job_rows}
+use Rattle.faults.specs.Faults.{net_before, job_rows}
 use Rattle.faults.specs.Inner.{progress, job_step}
 use Rattle.steps.specs.Steps.{handed_step}
 use Rattle.faults.proofs.Judging.{goes_on, stops, ends}
@@ -33,23 +32,18 @@ loop-i-init c = (omega arith, refl, none_yet _)
 
 pub returns-in_default : goal.returns-in_default
 returns-in_default c =
-    let judged = c in
-    let at = judged in
-    let whole = at in
-    stops _ whole.if-job-gt-LONGEST.false whole.if-job-ne0.false (omega arith) at.loop-i.i (omega arith) at.loop-i.invariant.2 judged.judge-judged.result c.in_default.in_default-own.keys2 judged.judge-judged.ensures
+    stops _ c.if-job-gt-LONGEST.false c.if-job-ne0.false (omega arith) c.loop-i.i (omega arith) c.loop-i.invariant.2 c.judge-judged.result c.in_default.in_default-own.keys2 c.judge-judged.ensures
 
 pub loop-i-preserved : goal.loop-i-preserved
 loop-i-preserved c =
-    let judged = c in
-    let l = judged.loop-i in
-    let n = goes_on _ l.i (sym (ap handed_step c.in-Next.is) ∙ judged.judge-judged.ensures) in
+    let l = c.loop-i in
+    let n = goes_on _ l.i (sym (ap handed_step c.in-Next.is) ∙ c.judge-judged.ensures) in
     (omega arith, n.1, one_more _ l.i l.invariant.2 n.0)
 
 pub returns : goal.returns
 returns c =
     let l = c.loop-i in
-    let whole = c in
-    let job = whole.args.job.now in
+    let job = c.args.job.now in
     let all : l.i ≡ records job = omega arith in
     ap answer (l.invariant.1 ∙ ap (progress job) all)
-    ∙ ends job whole.if-job-gt-LONGEST.false whole.if-job-ne0.false (omega arith) (rw all at l.invariant.2)
+    ∙ ends job c.if-job-gt-LONGEST.false c.if-job-ne0.false (omega arith) (rw all at l.invariant.2)

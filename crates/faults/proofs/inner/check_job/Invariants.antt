@@ -1,19 +1,10 @@
 -- `faults::inner::check_job` judges the whole job. The loop's invariant: the records before pass, and what was read is theirs.
-use mathlib.Core.Path.{◌≡◌, refl, sym, ap, ◌∙◌}
-use Prim.Native.Nat.{◌-◌, ◌≤◌, ◌<◌}
-use native.Mathlib.Omega.{arith}
-use lib.ListN.{length}
-use borrow.Author.Rules.{rules}
-use borrow.Author.Tests.{lt-ltb, le-ltb, eq-eqb, ne_eqb}
-use Rattle.laws.specs.Below.{how_many}
-use Rattle.board.specs.Handed.{passes, answer}
-use Rattle.records.specs.Records.{records, in_order}
-use Rattle.records.proofs.InOrder.{none_yet, one_more}
-use Rattle.kinds.specs.Job.{longest_job}
-use Rattle.faults.specs.Faults.{net_before, record_rows, job_rows}
-use Rattle.faults.specs.Inner.{progress, job_step}
-use Rattle.steps.specs.Steps.{handed_step}
-use Rattle.faults.proofs.Judging.{goes_on, stops, ends}
+use mathlib.Core.Path.{◌≡◌}
+use Prim.Native.Nat.{◌-◌, ◌≤◌}
+use Rattle.board.specs.Handed.{passes}
+use Rattle.records.specs.Records.{in_order}
+use Rattle.faults.specs.Faults.{record_rows}
+use Rattle.faults.specs.Inner.{progress}
 use Rattle.faults.proofs.inner.check_job.Given as goal
 
 abbrev pub invariant-loop-i : goal.invariant-loop-i

@@ -1,12 +1,6 @@
 -- `gather::inner::gather` takes the records from the last to the first. The loop's invariant: those taken are in the slices.
-use mathlib.Core.Path.{◌≡◌, ap}
-use Prim.Native.Nat.{ℕ, suc, ◌-◌, ◌^◌, ◌<◌}
-use native.Mathlib.Omega.{arith}
-use lib.Dec.{eqb}
-use lib.ListN.{length}
 use Rattle.tracks.specs.Layout.{slices}
-use Rattle.gather.proofs.Filling.{filled_length}
-use Rattle.gather.proofs.Taking.{Taken, taken_none, taken_all, point_room, net_room, taken_one}
+use Rattle.gather.proofs.Taking.{Taken}
 use Rattle.gather.proofs.inner.gather.Given as goal
 
 abbrev pub invariant-loop-i : goal.invariant-loop-i

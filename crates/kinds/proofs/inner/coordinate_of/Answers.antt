@@ -1,4 +1,3 @@
-use borrow.Author.Rules.{rules}
 use Rattle.kinds.specs.Job.{coordinate}
 use Rattle.kinds.proofs.inner.coordinate_of.Goals as goal
 

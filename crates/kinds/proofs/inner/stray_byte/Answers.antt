@@ -1,12 +1,11 @@
-use Prim.Native.Nat.{◌+◌, ◌-◌, ◌≤◌}
+use Prim.Native.Nat.{◌+◌}
 use mathlib.Core.Path.{◌≡◌}
-use mathlib.Core.Logic.{⊎_elim}
 use native.Mathlib.Omega.{arith}
 use lib.Dec.{eqb}
 use borrow.Author.Tests.{eqb-true}
 use Rattle.laws.proofs.Tests.{and_left, and_right}
 use Rattle.records.specs.Records.{record_bytes}
-use Rattle.records.proofs.Stray.{Lowest, lowest_begins, lowest_found, lowest_kept, lowest_ends}
+use Rattle.records.proofs.Stray.{Lowest, lowest_begins, lowest_found, lowest_kept}
 use Rattle.kinds.specs.Job.{used_by}
 use Rattle.kinds.proofs.inner.stray_byte.Goals as goal
 use Rattle.kinds.proofs.inner.stray_byte.Goals.{then-stray-lowest, else-stray-lowest}
@@ -16,9 +15,8 @@ loop-k-init c = (omega arith, lowest_begins _ _ _)
 
 pub loop-k-preserved : goal.loop-k-preserved
 loop-k-preserved c =
-    let at = c in
-    let l = at.loop-k in
-    let a = at.args in
+    let l = c.loop-k in
+    let a = c.args in
     let s = c.is_stray-stray.ensures in
     let stray = c.is_stray-stray.result in
     let next : Lowest a.job.now (used_by a.kind) a.i (l.k + 1) c.if-stray-lowest.lowest =

@@ -1,13 +1,7 @@
 -- `kinds::inner::stray_byte` finds the lowest unused byte that is not 0. The loop's invariant: it is known, or none before is.
-use Prim.Native.Nat.{◌+◌, ◌-◌, ◌≤◌}
-use mathlib.Core.Path.{◌≡◌}
-use mathlib.Core.Logic.{⊎_elim}
-use native.Mathlib.Omega.{arith}
-use lib.Dec.{eqb}
-use borrow.Author.Tests.{eqb-true}
-use Rattle.laws.proofs.Tests.{and_left, and_right}
+use Prim.Native.Nat.{◌-◌, ◌≤◌}
 use Rattle.records.specs.Records.{record_bytes}
-use Rattle.records.proofs.Stray.{Lowest, lowest_begins, lowest_found, lowest_kept, lowest_ends}
+use Rattle.records.proofs.Stray.{Lowest}
 use Rattle.kinds.specs.Job.{used_by}
 use Rattle.kinds.proofs.inner.stray_byte.Given as goal
 

@@ -1,15 +1,10 @@
 -- `laying::inner::lay_net` writes a net's records. The loop's invariant: those of the points before are written.
-use mathlib.Core.Path.{◌≡◌, ap}
-use mathlib.Core.List.{◌++◌}
+use mathlib.Core.Path.{◌≡◌}
 use Prim.Native.Nat.{◌*◌, ◌+◌, ◌-◌, ◌≤◌}
-use native.Mathlib.Omega.{arith}
-use borrow.Author.Rules.{rules}
-use lib.ListN.{length, take, drop}
+use lib.ListN.{length}
 use Rattle.tracks.specs.Answers.{laid}
 use Rattle.tracks.specs.Inner.{records_for}
-use Rattle.tally.proofs.Parts.{nonzero}
-use Rattle.laying.specs.Inner.{bytes_for}
-use Rattle.laying.proofs.Written.{up_to, net_none, net_begins, net_kept, net_fits, net_goes, net_ends}
+use Rattle.laying.proofs.Written.{up_to}
 use Rattle.laying.proofs.inner.lay_net.Given as goal
 
 abbrev pub invariant-loop-p : goal.invariant-loop-p

@@ -1,11 +1,9 @@
 -- `laying::inner::lay_routes` writes net after net. The loop's invariant: the nets before are written.
-use mathlib.Core.Path.{◌≡◌, refl, ap}
-use Prim.Native.Nat.{ℕ, ◌+◌, ◌-◌, ◌≤◌, ◌<◌}
-use native.Mathlib.Omega.{arith}
-use borrow.Author.Rules.{rules}
+use mathlib.Core.Path.{◌≡◌}
+use Prim.Native.Nat.{◌-◌, ◌≤◌}
 use lib.ListN.{length}
-use Rattle.tracks.specs.Layout.{Slices, slices}
-use Rattle.laying.proofs.Written.{Laying, laying_none, laying_more, laying_room, laying_kept, laying_all, points_within}
+use Rattle.tracks.specs.Layout.{slices}
+use Rattle.laying.proofs.Written.{Laying}
 use Rattle.laying.proofs.inner.lay_routes.Given as goal
 
 abbrev pub invariant-loop-k : goal.invariant-loop-k

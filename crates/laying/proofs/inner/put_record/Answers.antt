@@ -1,6 +1,3 @@
-use native.Mathlib.Omega.{arith}
-use borrow.Author.Rules.{rules}
-use lib.ListN.{length-set}
 use Rattle.laying.proofs.Written.{eight_set}
 use Rattle.laying.proofs.inner.put_record.Goals as goal
 

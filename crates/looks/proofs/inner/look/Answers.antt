@@ -234,7 +234,7 @@ better_2 x =
 better_is_2 : (x : goal.Joined-wins) (t : Bool) → x.wins.result ≡ t → better_2 x ≡ t
 better_is_2 x t e = ◌∙◌ {a = better_2 x} (sym {b = better_2 x} x.wins.ensures) e
 
--- legs that are written as are those that the parent gives
+-- legs that are written as counted are those that the parent gives
 settled_legs : (l : List ℕ) (v : ℕ) {l' : List ℕ} {n m : ℕ} → l' ≡ set l v n → n ≡ m → l' ≡ set l v m
 settled_legs l v e f = e ∙ ap (λ (x : ℕ). set l v x) f
 

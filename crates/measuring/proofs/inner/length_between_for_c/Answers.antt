@@ -1,7 +1,4 @@
-use mathlib.Core.Path.{ap, ◌∙◌}
-use borrow.Author.Rules.{rules}
 use Rattle.length.proofs.Answers.{length_between_exact}
-use Rattle.measuring.specs.Measuring.{told_length}
 use Rattle.measuring.proofs.inner.length_between_for_c.Goals as goal
 
 pub tell_length-requires : goal.tell_length-requires

@@ -1,14 +1,11 @@
-use Prim.Native.Nat.{ℕ, ◌+◌, ◌-◌, ◌≤◌, ◌<◌}
-use mathlib.Core.Path.{◌≡◌, refl, ◌∙◌}
+use Prim.Native.Nat.{ℕ, ◌+◌, ◌<◌}
+use mathlib.Core.Path.{◌∙◌}
 use mathlib.Core.List.{List, ◌∷◌}
 use native.Mathlib.Omega.{arith}
 use lib.ListN.{length, take, drop, get_or}
-use lib.Seq.{take_all}
 use Rattle.lines.specs.Lines.{spaced, vertex_field, vertex_fields}
-use Rattle.lines.specs.Inner.{Put, Room}
-use Rattle.putting.proofs.Puts.{put_nothing, room_turn, put_turn}
+use Rattle.putting.proofs.Puts.{room_turn, put_turn}
 use Rattle.lines.proofs.Fields.{path_parts, path_more}
-use borrow.Author.Rules.{rules}
 use Rattle.netline.proofs.inner.put_path.Goals as goal
 
 pub put_vertex-next-requires : goal.put_vertex-next-requires
@@ -25,9 +22,8 @@ put_vertex-next-requires c =
 pub loop-i-preserved : goal.loop-i-preserved
 loop-i-preserved c =
     let put = c.put_vertex-next in
-    let head = c in
-    let l = head.loop-i in
-    let a = head.args in
+    let l = c.loop-i in
+    let a = c.args in
     let path : List ℕ = a.path.now in
     let done = spaced (vertex_fields a.width (take l.i path)) in
     let piece : List ℕ = 32 ∷ vertex_field a.width (get_or path l.i 0) in

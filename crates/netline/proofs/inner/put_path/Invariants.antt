@@ -1,15 +1,9 @@
 -- `netline::inner::put_path`: the vertices so far have been put.
-use Prim.Native.Nat.{ℕ, ◌+◌, ◌-◌, ◌≤◌, ◌<◌}
-use mathlib.Core.Path.{◌≡◌, refl, ◌∙◌}
-use mathlib.Core.List.{List, ◌∷◌}
-use native.Mathlib.Omega.{arith}
-use lib.ListN.{length, take, drop, get_or}
-use lib.Seq.{take_all}
-use Rattle.lines.specs.Lines.{spaced, vertex_field, vertex_fields}
+use Prim.Native.Nat.{◌-◌, ◌≤◌}
+use mathlib.Core.Path.{◌≡◌}
+use lib.ListN.{length, take}
+use Rattle.lines.specs.Lines.{spaced, vertex_fields}
 use Rattle.lines.specs.Inner.{Put, Room}
-use Rattle.putting.proofs.Puts.{put_nothing, room_turn, put_turn}
-use Rattle.lines.proofs.Fields.{path_parts, path_more}
-use borrow.Author.Rules.{rules}
 use Rattle.netline.proofs.inner.put_path.Given as goal
 
 abbrev pub invariant-loop-i : goal.invariant-loop-i

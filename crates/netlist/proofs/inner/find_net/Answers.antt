@@ -1,11 +1,9 @@
 use mathlib.Core.Path.{◌≡◌, refl, sym, ◌∙◌}
-use Prim.Native.Nat.{◌-◌, ◌≤◌}
 use native.Mathlib.Omega.{arith}
-use borrow.Author.Rules.{rules}
 use borrow.Author.Tests.{eq-eqb, ne_eqb}
 use Rattle.laws.specs.Below.{how_many}
 use Rattle.laws.proofs.Below.{many_pass, many_fail}
-use Rattle.records.specs.Records.{records, byte}
+use Rattle.records.specs.Records.{records}
 use Rattle.kinds.specs.Job.{is_net}
 use Rattle.netlist.proofs.Nets.{found_here, found_none}
 use Rattle.netlist.proofs.inner.find_net.Goals as goal
@@ -22,19 +20,16 @@ loop-i-preserved-then-byte_of-ne-NET c =
 
 pub returns-then-before-index : goal.returns-then-before-index
 returns-then-before-index c =
-    let e = c in
-    let l = e.loop-i in
-    let net = eq-eqb _ 3 (sym e.byte_of.ensures ∙ e.if-byte_of-ne-NET.false) in
-    let here : l.before ≡ e.args.index = omega arith in
+    let l = c.loop-i in
+    let net = eq-eqb _ 3 (sym c.byte_of.ensures ∙ c.if-byte_of-ne-NET.false) in
+    let here : l.before ≡ c.args.index = omega arith in
     c.record_at.ensures ∙ found_here _ l.i (omega arith) net (sym l.invariant.2 ∙ here)
 
 pub loop-i-preserved : goal.loop-i-preserved
 loop-i-preserved c =
-    let e = c in
-    let at = e in
-    let l = at.loop-i in
-    let job = at.args.job.now in
-    let net = eq-eqb _ 3 (sym e.byte_of.ensures ∙ e.if-byte_of-ne-NET.false) in
+    let l = c.loop-i in
+    let job = c.args.job.now in
+    let net = eq-eqb _ 3 (sym c.byte_of.ensures ∙ c.if-byte_of-ne-NET.false) in
     (omega arith, l.invariant.1, omega (arith, l.invariant.2, many_pass (is_net job) l.i net), omega arith)
 
 pub returns : goal.returns

@@ -1,14 +1,9 @@
 -- `netlist::inner::find_net` finds the net with an index. The loop's invariant: as many nets as were counted lie before.
-use mathlib.Core.Path.{◌≡◌, refl, sym, ◌∙◌}
+use mathlib.Core.Path.{◌≡◌}
 use Prim.Native.Nat.{◌-◌, ◌≤◌}
-use native.Mathlib.Omega.{arith}
-use borrow.Author.Rules.{rules}
-use borrow.Author.Tests.{eq-eqb, ne_eqb}
 use Rattle.laws.specs.Below.{how_many}
-use Rattle.laws.proofs.Below.{many_pass, many_fail}
-use Rattle.records.specs.Records.{records, byte}
+use Rattle.records.specs.Records.{records}
 use Rattle.kinds.specs.Job.{is_net}
-use Rattle.netlist.proofs.Nets.{found_here, found_none}
 use Rattle.netlist.proofs.inner.find_net.Given as goal
 
 abbrev pub invariant-loop-i : goal.invariant-loop-i

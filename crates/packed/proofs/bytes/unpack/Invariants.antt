@@ -1,15 +1,10 @@
 -- `packed::bytes::unpack` writes the cells one after the other. The loop's invariant: those so far, and beyond them what the
 -- slice held.
-use mathlib.Core.Path.{◌≡◌, refl, ◌∙◌}
+use mathlib.Core.Path.{◌≡◌}
 use mathlib.Core.List.{◌++◌}
-use Prim.Native.Nat.{◌*◌, ◌-◌, ◌/◌, ◌%◌, ◌≤◌, ◌<◌}
-use native.Mathlib.Nat.{mod-lt}
-use native.Mathlib.Omega.{arith}
-use lib.ListN.{length, drop}
+use Prim.Native.Nat.{◌*◌, ◌-◌, ◌≤◌}
+use lib.ListN.{drop}
 use Rattle.bits.specs.Packed.{entries, cell_of}
-use Rattle.bits.proofs.Entries.{entries_none, kept_length, written_next}
-use Rattle.bits.proofs.Rows.{line_below, byte_below, cells_few}
-use Rattle.bits.proofs.Trips.{cell_is}
 use Rattle.packed.proofs.bytes.unpack.Given as goal
 
 abbrev pub invariant-loop-k : goal.invariant-loop-k

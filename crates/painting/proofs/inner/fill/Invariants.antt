@@ -1,9 +1,6 @@
 -- `painting::inner::fill` gives the entries their value and keeps the others.
-use mathlib.Core.Path.{◌≡◌}
 use Prim.Native.Nat.{◌-◌, ◌≤◌}
-use native.Mathlib.Omega.{arith}
 use Rattle.painting.specs.Cells.{Filled}
-use Rattle.painting.proofs.Painting.{fill_none, fill_more}
 use Rattle.painting.proofs.inner.fill.Given as goal
 
 abbrev pub invariant-loop-at : goal.invariant-loop-at

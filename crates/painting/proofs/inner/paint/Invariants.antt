@@ -1,12 +1,7 @@
 -- `painting::inner::paint` blocks a rectangle row by row. The loop's invariant: the rows above are painted.
-use mathlib.Core.Path.{◌≡◌}
-use Prim.Native.Nat.{◌+◌, ◌*◌, ◌-◌, ◌≤◌}
-use native.Mathlib.Nat.{mul-le-mul_right}
-use native.Mathlib.Omega.{arith}
-use lib.ListN.{length}
+use Prim.Native.Nat.{◌-◌, ◌≤◌}
 use Rattle.kinds.specs.Job.{inside}
-use Rattle.painting.specs.Cells.{Filled, Painted}
-use Rattle.painting.proofs.Painting.{lines_none, lines_more}
+use Rattle.painting.specs.Cells.{Painted}
 use Rattle.painting.proofs.inner.paint.Given as goal
 
 abbrev pub invariant-loop-y : goal.invariant-loop-y

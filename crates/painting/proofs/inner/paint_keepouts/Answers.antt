@@ -1,14 +1,11 @@
 use mathlib.Core.Path.{◌≡◌, refl, sym, ◌∙◌}
-use Prim.Native.Nat.{◌-◌, ◌≤◌}
 use native.Mathlib.Nat.{mul-le-mul_right}
 use native.Mathlib.Omega.{arith}
-use borrow.Author.Rules.{rules}
 use Rattle.records.specs.Records.{records}
 use Rattle.kinds.specs.Job.{in_keepout}
-use Rattle.painting.specs.Cells.{Painted}
 use Rattle.kinds.proofs.Says.{said}
 use Rattle.faults.proofs.Accepted.{no_keepout, keepout_on}
-use Rattle.painting.proofs.Painting.{covered_by, keepouts_none, keepouts_skip, keepouts_more}
+use Rattle.painting.proofs.Painting.{keepouts_none, keepouts_skip, keepouts_more}
 use Rattle.painting.proofs.inner.paint_keepouts.Goals as goal
 
 pub loop-i-init : goal.loop-i-init
@@ -16,31 +13,21 @@ loop-i-init c = (omega arith, refl, keepouts_none _ _ _)
 
 pub loop-i-preserved-in_default : goal.loop-i-preserved-in_default
 loop-i-preserved-in_default c =
-    let read = c in
-    let at = read in
-    let l = at.loop-i in
-    let s = at in
-    let none = no_keepout s.requires.accepted l.i (omega arith) (said _ _ read.record_at.ensures) c.in_default.not-Keepout in
+    let l = c.loop-i in
+    let none = no_keepout c.requires.accepted l.i (omega arith) (said _ _ c.record_at.ensures) c.in_default.not-Keepout in
     (omega arith, l.invariant.1, keepouts_skip _ _ l.i none l.invariant.2)
 
 pub paint-requires : goal.paint-requires
 paint-requires c =
-    let keepout = c in
-    let read = keepout in
-    let at = read in
-    let l = at.loop-i in
-    let s = at in
-    let on = keepout_on s.requires.accepted (omega arith) (said _ _ (sym keepout.in-Keepout.is ∙ read.record_at.ensures)) in
-    omega (arith, l.invariant.2.long, mul-le-mul_right s.args.wide on.3)
+    let l = c.loop-i in
+    let on = keepout_on c.requires.accepted (omega arith) (said _ _ (sym c.in-Keepout.is ∙ c.record_at.ensures)) in
+    omega (arith, l.invariant.2.long, mul-le-mul_right c.args.wide on.3)
 
 pub loop-i-preserved : goal.loop-i-preserved
 loop-i-preserved c =
-    let painted = c in
-    let keepout = painted in
-    let read = keepout in
-    let l = read.loop-i in
-    let this = said _ _ (sym keepout.in-Keepout.is ∙ read.record_at.ensures) in
-    (omega arith, l.invariant.1, keepouts_more _ _ this l.invariant.2 painted.paint.ensures)
+    let l = c.loop-i in
+    let this = said _ _ (sym c.in-Keepout.is ∙ c.record_at.ensures) in
+    (omega arith, l.invariant.1, keepouts_more _ _ this l.invariant.2 c.paint.ensures)
 
 pub returns : goal.returns
 unfolding in_keepout

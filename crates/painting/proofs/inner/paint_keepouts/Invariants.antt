@@ -1,15 +1,9 @@
 -- `painting::inner::paint_keepouts` blocks every keepout. The loop's invariant: those of the records before are painted.
-use mathlib.Core.Path.{◌≡◌, refl, sym, ◌∙◌}
+use mathlib.Core.Path.{◌≡◌}
 use Prim.Native.Nat.{◌-◌, ◌≤◌}
-use native.Mathlib.Nat.{mul-le-mul_right}
-use native.Mathlib.Omega.{arith}
-use borrow.Author.Rules.{rules}
 use Rattle.records.specs.Records.{records}
-use Rattle.kinds.specs.Job.{in_keepout}
 use Rattle.painting.specs.Cells.{Painted}
-use Rattle.kinds.proofs.Says.{said}
-use Rattle.faults.proofs.Accepted.{no_keepout, keepout_on}
-use Rattle.painting.proofs.Painting.{covered_by, keepouts_none, keepouts_skip, keepouts_more}
+use Rattle.painting.proofs.Painting.{covered_by}
 use Rattle.painting.proofs.inner.paint_keepouts.Given as goal
 
 abbrev pub invariant-loop-i : goal.invariant-loop-i

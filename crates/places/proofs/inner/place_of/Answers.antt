@@ -1,5 +1,4 @@
 use native.Mathlib.Omega.{arith}
-use borrow.Author.Rules.{rules}
 use Rattle.tracks.specs.Tracks.{place_of}
 use Rattle.places.proofs.inner.place_of.Goals as goal
 

@@ -1,18 +1,13 @@
 -- `points::inner::first_wrong_leg` looks through the legs. The loop's invariant: those before are right.
 use mathlib.Core.Path.{◌≡◌}
 use Prim.Native.Nat.{ℕ, ◌+◌, ◌-◌, ◌≤◌}
-use native.Mathlib.Omega.{arith}
-use borrow.Author.Rules.{rules}
 use lib.Dec.{eqb}
 use Rattle.laws.specs.Below.{first_where}
-use Rattle.laws.proofs.Below.{none_yet, none_more}
 use Rattle.board.specs.Board.{board}
 use Rattle.board.specs.Inner.{Sound}
 use Rattle.records.specs.Records.{records}
-use Rattle.bureau.specs.Paths.{is_leg_wrong, leg_place}
+use Rattle.bureau.specs.Paths.{is_leg_wrong}
 use Rattle.bureau.specs.Inner.{record_points, PointsOn}
-use Rattle.bureau.proofs.Finding.{first_found, first_done}
-use Rattle.points.proofs.Reading.{legs_on, leg_told, legs_are}
 use Rattle.points.proofs.inner.first_wrong_leg.Given as goal
 
 abbrev pub invariant-loop-k : goal.invariant-loop-k

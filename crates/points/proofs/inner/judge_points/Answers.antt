@@ -1,6 +1,5 @@
 use Prim.Native.Nat.{◌-◌, ◌≤◌}
 use native.Mathlib.Omega.{arith}
-use borrow.Author.Rules.{rules}
 use Rattle.points.proofs.Same.{points_left}
 use Rattle.points.proofs.Reading.{path_end_lem, path_off, path_leg, path_fine}
 use Rattle.points.proofs.inner.judge_points.Goals as goal
@@ -10,34 +9,22 @@ returns-then-is_end_wrong c = path_end_lem _ _ _ _ c.is_end_wrong.ensures c.if-i
 
 pub returns-then-off-n : goal.returns-then-off-n
 returns-then-off-n c =
-    let off = c in
-    let right = off in
-    path_off _ _ _ _ right.is_end_wrong.ensures right.if-is_end_wrong.false (off.first_off-off.ensures _) c.if-off-n.true
+    path_off _ _ _ _ c.is_end_wrong.ensures c.if-is_end_wrong.false (c.first_off-off.ensures _) c.if-off-n.true
 
 pub first_wrong_leg-leg-requires : goal.first_wrong_leg-leg-requires
 first_wrong_leg-leg-requires c =
-    let off = c in
-    let s = off in
-    record { sound = s.requires.sound; n_nonzero = s.requires.n_nonzero; points_on = points_left _ _ _ (off.first_off-off.ensures _) c.if-off-n.false }
+    record { sound = c.requires.sound; n_nonzero = c.requires.n_nonzero; points_on = points_left _ _ _ (c.first_off-off.ensures _) c.if-off-n.false }
 
 pub returns-then-leg-n : goal.returns-then-leg-n
 returns-then-leg-n c =
-    let leg = c in
-    let on = leg in
-    let off = on in
-    let right = off in
-    path_leg _ _ _ _ right.is_end_wrong.ensures right.if-is_end_wrong.false (off.first_off-off.ensures _) on.if-off-n.false
-    leg.first_wrong_leg-leg.ensures (omega (arith, c.if-leg-n.true))
+    path_leg _ _ _ _ c.is_end_wrong.ensures c.if-is_end_wrong.false (c.first_off-off.ensures _) c.if-off-n.false
+    c.first_wrong_leg-leg.ensures (omega (arith, c.if-leg-n.true))
 
 -- it passes only where none of the n - 1 legs is wrong
-legs_right : (c : goal.Else-leg-n) → let off = c in off.args.n - 1 ≤ c.first_wrong_leg-leg.result
+legs_right : (c : goal.Else-leg-n) → c.args.n - 1 ≤ c.first_wrong_leg-leg.result
 legs_right c = omega (arith, c.if-leg-n.false)
 
 pub returns : goal.returns
 returns c =
-    let leg = c in
-    let on = leg in
-    let off = on in
-    let right = off in
-    path_fine _ _ _ _ right.is_end_wrong.ensures right.if-is_end_wrong.false (off.first_off-off.ensures _) on.if-off-n.false
-    leg.first_wrong_leg-leg.ensures (legs_right c)
+    path_fine _ _ _ _ c.is_end_wrong.ensures c.if-is_end_wrong.false (c.first_off-off.ensures _) c.if-off-n.false
+    c.first_wrong_leg-leg.ensures (legs_right c)

@@ -1,5 +1,4 @@
 use mathlib.Core.Path.{◌≡◌}
-use borrow.Author.Rules.{rules}
 use borrow.Author.Tests.{eq-eqb, ne_eqb}
 use Rattle.printing.specs.Inner.{line_for}
 use Rattle.printing.proofs.inner.line_for.Goals as goal
@@ -18,5 +17,4 @@ returns-then-number-eq-NONE c =
 pub returns : goal.returns
 unfolding line_for
 returns c =
-    let k = c in
-    rw (ne_eqb _ 0 k.if-number-eq-PATH.false, ne_eqb _ 8 k.if-number-eq-NONE.false) c.refusal_line.ensures.line_is
+    rw (ne_eqb _ 0 c.if-number-eq-PATH.false, ne_eqb _ 8 c.if-number-eq-NONE.false) c.refusal_line.ensures.line_is

@@ -1,13 +1,6 @@
-use Prim.Native.Nat.{ℕ, ◌+◌, ◌-◌, ◌%◌, ◌≤◌, ◌<◌}
-use mathlib.Core.Path.{◌≡◌, refl, ◌∙◌}
-use native.Mathlib.Nat.{mod-lt}
 use native.Mathlib.Omega.{arith}
-use lib.Dec.{lit<}
-use lib.ListN.{length, length-set}
-use Rattle.lines.specs.Lines.{decimal}
-use Rattle.lines.specs.Inner.{Room}
-use Rattle.putting.proofs.Backward.{Half, half_begins, half_length, half_turn, half_ends}
-use borrow.Author.Rules.{rules}
+use lib.ListN.{length-set}
+use Rattle.putting.proofs.Backward.{half_turn}
 use Rattle.putting.proofs.inner.put_decimal.Goals as goal
 
 pub loop-left-preserved : goal.loop-left-preserved

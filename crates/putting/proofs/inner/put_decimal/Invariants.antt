@@ -1,14 +1,9 @@
 -- `putting::inner::put_decimal`: the last digits are put, and the rest has those before them; the measure is how many are left.
-use Prim.Native.Nat.{ℕ, ◌+◌, ◌-◌, ◌%◌, ◌≤◌, ◌<◌}
-use mathlib.Core.Path.{◌≡◌, refl, ◌∙◌}
-use native.Mathlib.Nat.{mod-lt}
-use native.Mathlib.Omega.{arith}
-use lib.Dec.{lit<}
-use lib.ListN.{length, length-set}
+use mathlib.Core.Path.{◌≡◌}
+use lib.ListN.{length}
 use Rattle.lines.specs.Lines.{decimal}
 use Rattle.lines.specs.Inner.{Room}
-use Rattle.putting.proofs.Backward.{Half, half_begins, half_length, half_turn, half_ends}
-use borrow.Author.Rules.{rules}
+use Rattle.putting.proofs.Backward.{Half}
 use Rattle.putting.proofs.inner.put_decimal.Given as goal
 
 abbrev pub invariant-loop-left : goal.invariant-loop-left

@@ -1,13 +1,10 @@
-use Prim.Native.Nat.{ℕ, ◌+◌, ◌-◌, ◌≤◌, ◌<◌}
-use mathlib.Core.Path.{◌≡◌, refl, ◌∙◌}
+use Prim.Native.Nat.{ℕ, ◌+◌, ◌<◌}
+use mathlib.Core.Path.{◌∙◌}
 use mathlib.Core.List.{List, [], ◌∷◌}
 use native.Mathlib.Omega.{arith}
 use lib.ListN.{length, take, drop, get_or}
-use lib.Seq.{take_all}
-use Rattle.lines.specs.Inner.{Put, Room}
-use Rattle.putting.proofs.Puts.{put_nothing, room_turn, put_turn}
+use Rattle.putting.proofs.Puts.{put_turn}
 use Rattle.lines.proofs.Fields.{text_parts, text_more}
-use borrow.Author.Rules.{rules}
 use Rattle.putting.proofs.inner.put_text.Goals as goal
 
 pub loop-i-preserved : goal.loop-i-preserved

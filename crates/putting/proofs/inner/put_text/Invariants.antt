@@ -1,14 +1,8 @@
 -- `putting::inner::put_text`: the text so far has been put.
-use Prim.Native.Nat.{ℕ, ◌+◌, ◌-◌, ◌≤◌, ◌<◌}
-use mathlib.Core.Path.{◌≡◌, refl, ◌∙◌}
-use mathlib.Core.List.{List, [], ◌∷◌}
-use native.Mathlib.Omega.{arith}
-use lib.ListN.{length, take, drop, get_or}
-use lib.Seq.{take_all}
+use Prim.Native.Nat.{◌-◌, ◌≤◌}
+use mathlib.Core.Path.{◌≡◌}
+use lib.ListN.{length, take}
 use Rattle.lines.specs.Inner.{Put, Room}
-use Rattle.putting.proofs.Puts.{put_nothing, room_turn, put_turn}
-use Rattle.lines.proofs.Fields.{text_parts, text_more}
-use borrow.Author.Rules.{rules}
 use Rattle.putting.proofs.inner.put_text.Given as goal
 
 abbrev pub invariant-loop-i : goal.invariant-loop-i

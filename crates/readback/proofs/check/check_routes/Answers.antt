@@ -1,12 +1,8 @@
 use mathlib.Core.Path.{◌≡◌, refl, ap, ◌∙◌}
-use Prim.Native.Nat.{◌-◌, ◌≤◌}
 use native.Mathlib.Omega.{arith}
-use borrow.Author.Rules.{rules}
 use Rattle.laws.specs.Below.{how_many}
-use Rattle.board.specs.Handed.{passes}
-use Rattle.records.specs.Records.{records, in_order}
+use Rattle.records.specs.Records.{records}
 use Rattle.records.proofs.InOrder.{none_yet, one_more}
-use Rattle.tracks.specs.Faults.{record_rows}
 use Rattle.scan.specs.Inner.{progress}
 use Rattle.readback.proofs.Judging.{uneven, stops, ends, goes_on, progress_next}
 use Rattle.readback.proofs.check.check_routes.Goals as goal
@@ -20,16 +16,13 @@ loop-i-init c = (omega arith, refl, refl, none_yet _)
 
 pub returns-in_default : goal.returns-in_default
 returns-in_default c =
-    let judged = c in
-    let at = judged in
-    stops _ at.if-file-ne0.false at.loop-i.i (omega (arith, at.loop-i.invariant.1)) at.loop-i.invariant.3 judged.judge-judged.result c.in_default.in_default-own.keys2
-    judged.judge-judged.ensures
+    stops _ c.if-file-ne0.false c.loop-i.i (omega (arith, c.loop-i.invariant.1)) c.loop-i.invariant.3 c.judge-judged.result c.in_default.in_default-own.keys2
+    c.judge-judged.ensures
 
 pub loop-i-preserved : goal.loop-i-preserved
 loop-i-preserved c =
-    let judged = c in
-    let l = judged.loop-i in
-    let n = goes_on _ l.i c.in-Next.is judged.judge-judged.ensures in
+    let l = c.loop-i in
+    let n = goes_on _ l.i c.in-Next.is c.judge-judged.ensures in
     (omega arith, l.invariant.1, progress_next _ l.i n.1, one_more _ l.i l.invariant.3 n.0)
 
 pub returns : goal.returns

@@ -1,15 +1,10 @@
 -- `readback::check::check_routes` judges the whole file. The loop's invariant: the records before pass, and what was read is theirs.
-use mathlib.Core.Path.{◌≡◌, refl, ap, ◌∙◌}
+use mathlib.Core.Path.{◌≡◌}
 use Prim.Native.Nat.{◌-◌, ◌≤◌}
-use native.Mathlib.Omega.{arith}
-use borrow.Author.Rules.{rules}
-use Rattle.laws.specs.Below.{how_many}
 use Rattle.board.specs.Handed.{passes}
 use Rattle.records.specs.Records.{records, in_order}
-use Rattle.records.proofs.InOrder.{none_yet, one_more}
 use Rattle.tracks.specs.Faults.{record_rows}
 use Rattle.scan.specs.Inner.{progress}
-use Rattle.readback.proofs.Judging.{uneven, stops, ends, goes_on, progress_next}
 use Rattle.readback.proofs.check.check_routes.Given as goal
 
 abbrev pub invariant-loop-i : goal.invariant-loop-i

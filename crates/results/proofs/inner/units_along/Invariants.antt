@@ -1,12 +1,9 @@
 -- `results::inner::units_along` adds up the legs. The loop's invariant: the sum so far, which stays small.
 use mathlib.Core.Path.{◌≡◌}
 use Prim.Native.Nat.{ℕ, ◌+◌, ◌-◌, ◌*◌, ◌≤◌}
-use native.Mathlib.Omega.{arith}
-use borrow.Author.Rules.{rules}
 use Rattle.records.specs.Records.{records}
-use Rattle.bureau.specs.Paths.{total, leg_units, units_along}
+use Rattle.bureau.specs.Paths.{total, leg_units}
 use Rattle.bureau.specs.Inner.{record_points, PointsSmall}
-use Rattle.results.proofs.Measuring.{side_read, leg_length, total_none, total_more, total_done}
 use Rattle.results.proofs.inner.units_along.Given as goal
 
 abbrev pub invariant-loop-k : goal.invariant-loop-k

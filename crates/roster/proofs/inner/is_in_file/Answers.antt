@@ -1,4 +1,3 @@
-use borrow.Author.Rules.{rules}
 use Rattle.runs.proofs.Standing.{routes_told}
 use Rattle.roster.proofs.inner.is_in_file.Goals as goal
 

@@ -1,12 +1,6 @@
-use mathlib.Core.Path.{◌≡◌, refl}
-use mathlib.Core.Bool.{◌&&◌}
-use Prim.Native.Nat.{ℕ, ◌-◌, ◌≤◌}
+use mathlib.Core.Path.{refl}
 use native.Mathlib.Omega.{arith}
-use lib.Dec.{eqb}
-use Rattle.laws.specs.Below.{first_where}
 use Rattle.laws.proofs.Below.{none_yet, none_more}
-use Rattle.records.specs.Records.{records}
-use Rattle.kinds.specs.Job.{is_net, net_at}
 use Rattle.bureau.specs.Nets.{in_job}
 use Rattle.bureau.proofs.Finding.{some_found, some_done}
 use Rattle.roster.proofs.Telling.{net_told}
@@ -18,17 +12,13 @@ loop-i-init c = (omega arith, refl, none_yet _)
 pub returns-then-byte_of-same : goal.returns-then-byte_of-same
 unfolding in_job
 returns-then-byte_of-same c =
-    let kind = c in
-    let number = kind in
-    let l = number.loop-i in
-    some_found _ l.invariant.2 (net_told _ l.i _ kind.byte_of-in-loop-i.ensures number.byte_of.ensures c.if-byte_of-same.true) (omega arith)
+    let l = c.loop-i in
+    some_found _ l.invariant.2 (net_told _ l.i _ c.byte_of-in-loop-i.ensures c.byte_of.ensures c.if-byte_of-same.true) (omega arith)
 
 pub loop-i-preserved : goal.loop-i-preserved
 loop-i-preserved c =
-    let kind = c in
-    let number = kind in
-    let l = number.loop-i in
-    (omega arith, l.invariant.1, none_more _ l.i l.invariant.2 (net_told _ l.i _ kind.byte_of-in-loop-i.ensures number.byte_of.ensures c.if-byte_of-same.false))
+    let l = c.loop-i in
+    (omega arith, l.invariant.1, none_more _ l.i l.invariant.2 (net_told _ l.i _ c.byte_of-in-loop-i.ensures c.byte_of.ensures c.if-byte_of-same.false))
 
 pub returns : goal.returns
 unfolding in_job

@@ -1,16 +1,11 @@
 -- `roster::inner::is_in_job` looks through the job's records. The loop's invariant: none before is such a net.
-use mathlib.Core.Path.{◌≡◌, refl}
+use mathlib.Core.Path.{◌≡◌}
 use mathlib.Core.Bool.{◌&&◌}
 use Prim.Native.Nat.{ℕ, ◌-◌, ◌≤◌}
-use native.Mathlib.Omega.{arith}
 use lib.Dec.{eqb}
 use Rattle.laws.specs.Below.{first_where}
-use Rattle.laws.proofs.Below.{none_yet, none_more}
 use Rattle.records.specs.Records.{records}
 use Rattle.kinds.specs.Job.{is_net, net_at}
-use Rattle.bureau.specs.Nets.{in_job}
-use Rattle.bureau.proofs.Finding.{some_found, some_done}
-use Rattle.roster.proofs.Telling.{net_told}
 use Rattle.roster.proofs.inner.is_in_job.Given as goal
 
 abbrev pub invariant-loop-i : goal.invariant-loop-i

@@ -1,15 +1,9 @@
 -- `roster::inner::odd_net` looks through the numbers. The loop's invariant: both have the nets below, or neither.
 use mathlib.Core.Path.{◌≡◌}
-use mathlib.Core.Bool.{true, false}
-use Prim.Native.Nat.{ℕ, ◌-◌, ◌≤◌}
-use native.Mathlib.Omega.{arith}
-use borrow.Author.Rules.{rules}
+use Prim.Native.Nat.{◌-◌, ◌≤◌}
 use Rattle.laws.specs.Below.{first_where}
-use Rattle.laws.proofs.Below.{none_yet, none_more}
 use Rattle.tracks.specs.Tracks.{routes_in}
-use Rattle.bureau.specs.Nets.{is_odd, net_numbers, odd_net}
-use Rattle.bureau.proofs.Finding.{first_found, first_done}
-use Rattle.roster.proofs.Telling.{odd_told}
+use Rattle.bureau.specs.Nets.{is_odd, net_numbers}
 use Rattle.roster.proofs.inner.odd_net.Given as goal
 
 abbrev pub invariant-loop-number : goal.invariant-loop-number

@@ -1,12 +1,7 @@
-use mathlib.Core.Path.{◌≡◌, refl, sym, ◌∙◌}
-use Prim.Native.Nat.{ℕ, ◌-◌, ◌≤◌}
+use mathlib.Core.Path.{refl, sym, ◌∙◌}
 use native.Mathlib.Omega.{arith}
-use lib.Dec.{eqb}
 use borrow.Author.Tests.{eq-eqb, ne_eqb}
-use Rattle.laws.specs.Below.{first_where}
 use Rattle.laws.proofs.Below.{none_yet, none_more}
-use Rattle.records.specs.Records.{records}
-use Rattle.tracks.specs.Tracks.{net_of}
 use Rattle.bureau.specs.Inner.{first_record}
 use Rattle.bureau.proofs.Finding.{first_found, first_done}
 use Rattle.runs.proofs.inner.first_record.Goals as goal
@@ -17,15 +12,13 @@ loop-i-init c = (omega arith, refl, none_yet _)
 pub returns-then-byte_of-number : goal.returns-then-byte_of-number
 unfolding first_record
 returns-then-byte_of-number c =
-    let read = c in
-    let l = read.loop-i in
-    first_found _ l.invariant.2 (eq-eqb _ _ (sym read.byte_of.ensures ∙ c.if-byte_of-number.true)) (omega arith)
+    let l = c.loop-i in
+    first_found _ l.invariant.2 (eq-eqb _ _ (sym c.byte_of.ensures ∙ c.if-byte_of-number.true)) (omega arith)
 
 pub loop-i-preserved : goal.loop-i-preserved
 loop-i-preserved c =
-    let read = c in
-    let l = read.loop-i in
-    (omega arith, l.invariant.1, none_more _ l.i l.invariant.2 (ne_eqb _ _ (λ e. c.if-byte_of-number.false (read.byte_of.ensures ∙ e))))
+    let l = c.loop-i in
+    (omega arith, l.invariant.1, none_more _ l.i l.invariant.2 (ne_eqb _ _ (λ e. c.if-byte_of-number.false (c.byte_of.ensures ∙ e))))
 
 pub returns : goal.returns
 unfolding first_record

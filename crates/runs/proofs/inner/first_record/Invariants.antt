@@ -1,15 +1,10 @@
 -- `runs::inner::first_record` looks through the records. The loop's invariant: none before has the number.
-use mathlib.Core.Path.{◌≡◌, refl, sym, ◌∙◌}
+use mathlib.Core.Path.{◌≡◌}
 use Prim.Native.Nat.{ℕ, ◌-◌, ◌≤◌}
-use native.Mathlib.Omega.{arith}
 use lib.Dec.{eqb}
-use borrow.Author.Tests.{eq-eqb, ne_eqb}
 use Rattle.laws.specs.Below.{first_where}
-use Rattle.laws.proofs.Below.{none_yet, none_more}
 use Rattle.records.specs.Records.{records}
 use Rattle.tracks.specs.Tracks.{net_of}
-use Rattle.bureau.specs.Inner.{first_record}
-use Rattle.bureau.proofs.Finding.{first_found, first_done}
 use Rattle.runs.proofs.inner.first_record.Given as goal
 
 abbrev pub invariant-loop-i : goal.invariant-loop-i

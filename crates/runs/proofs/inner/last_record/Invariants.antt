@@ -1,14 +1,11 @@
 -- `runs::inner::last_record` goes on while the net number stays. The loop's invariant: the records so far are the net's points.
-use mathlib.Core.Path.{◌≡◌, sym, ◌∙◌}
-use Prim.Native.Nat.{ℕ, ◌-◌}
-use native.Mathlib.Omega.{arith}
+use mathlib.Core.Path.{◌≡◌}
+use Prim.Native.Nat.{◌-◌}
 use Rattle.board.specs.Handed.{passes}
 use Rattle.records.specs.Records.{records}
 use Rattle.tracks.specs.Tracks.{net_of}
 use Rattle.tracks.specs.Faults.{file_rows}
-use Rattle.tracks.proofs.Theorems.{all_records}
 use Rattle.bureau.specs.Inner.{Stretch}
-use Rattle.runs.proofs.Standing.{stretch_begins, stretch_next, last_here, last_end}
 use Rattle.runs.proofs.inner.last_record.Given as goal
 
 abbrev pub invariant-loop-last : goal.invariant-loop-last

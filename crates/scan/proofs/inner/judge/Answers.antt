@@ -1,6 +1,5 @@
 use mathlib.Core.Path.{refl}
 use native.Mathlib.Omega.{arith}
-use borrow.Author.Rules.{rules}
 use lib.Dec.{eqb}
 use Rattle.scan.proofs.Judging.{kind_uses, unused_few, unknown_row, unused_row_lem, wrong_row, right_row, nets_few, points_few}
 use Rattle.scan.proofs.inner.judge.Goals as goal
@@ -10,47 +9,24 @@ returns-then-not-point-kind c = unknown_row _ _ c.byte_of-kind.ensures refl c.if
 
 pub stray_byte-stray-requires : goal.stray_byte-stray-requires
 stray_byte-stray-requires c =
-    let known = c in
-    let kind = known.byte_of-kind.result in
-    let start = known in
-    record { i_bound = (omega (arith, start.requires.i_bound), unused_few (eqb kind 4) c.first_unused.ensures); used_below = kind_uses kind (eqb kind 4) refl known.if-not-point-kind.false-raw c.first_unused.ensures }
+    let kind = c.byte_of-kind.result in
+    record { i_bound = (omega (arith, c.requires.i_bound), unused_few (eqb kind 4) c.first_unused.ensures); used_below = kind_uses kind (eqb kind 4) refl c.if-not-point-kind.false-raw c.first_unused.ensures }
 
 pub returns-then-stray-lt-RECORD : goal.returns-then-stray-lt-RECORD
 returns-then-stray-lt-RECORD c =
-    let s = c in
-    let known = s in
-    unused_row_lem _ _ known.byte_of-kind.ensures refl known.if-not-point-kind.false-raw s.stray_byte-stray.ensures c.if-stray-lt-RECORD.true
+    unused_row_lem _ _ c.byte_of-kind.ensures refl c.if-not-point-kind.false-raw c.stray_byte-stray.ensures c.if-stray-lt-RECORD.true
 
 pub returns-then-is_wrong : goal.returns-then-is_wrong
 returns-then-is_wrong c =
-    let w = c in
-    let p = w in
-    let n = p in
-    let tidy = n in
-    let s = tidy in
-    let known = s in
-    let k = known in
-    let start = k in
-    wrong_row _ _ k.byte_of-kind.ensures refl known.if-not-point-kind.false-raw s.stray_byte-stray.ensures tidy.if-stray-lt-RECORD.false start.requires.past_value.1 start.requires.past_value.0
-    n.byte_of-net.ensures p.place_of-place.ensures.0 w.is_wrong.ensures c.if-is_wrong.true
+    wrong_row _ _ c.byte_of-kind.ensures refl c.if-not-point-kind.false-raw c.stray_byte-stray.ensures c.if-stray-lt-RECORD.false c.requires.past_value.1 c.requires.past_value.0
+    c.byte_of-net.ensures c.place_of-place.ensures.0 c.is_wrong.ensures c.if-is_wrong.true
 
 pub after_record-requires : goal.after_record-requires
 after_record-requires c =
-    let p = c in
-    let start = p in
-    let known = start.requires.past_value.0 in
-    (omega (arith, start.requires.i_bound, nets_few _ _ known), omega (arith, start.requires.i_bound, points_few _ _ known), p.place_of-place.ensures.1)
+    let known = c.requires.past_value.0 in
+    (omega (arith, c.requires.i_bound, nets_few _ _ known), omega (arith, c.requires.i_bound, points_few _ _ known), c.place_of-place.ensures.1)
 
 pub returns : goal.returns
 returns c =
-    let right = c in
-    let w = right in
-    let p = w in
-    let n = p in
-    let tidy = n in
-    let s = tidy in
-    let known = s in
-    let k = known in
-    let start = k in
-    right_row _ _ k.byte_of-kind.ensures refl known.if-not-point-kind.false-raw s.stray_byte-stray.ensures tidy.if-stray-lt-RECORD.false start.requires.past_value.1 start.requires.past_value.0
-    n.byte_of-net.ensures p.place_of-place.ensures.0 w.is_wrong.ensures right.if-is_wrong.false c.after_record.ensures
+    right_row _ _ c.byte_of-kind.ensures refl c.if-not-point-kind.false-raw c.stray_byte-stray.ensures c.if-stray-lt-RECORD.false c.requires.past_value.1 c.requires.past_value.0
+    c.byte_of-net.ensures c.place_of-place.ensures.0 c.is_wrong.ensures c.if-is_wrong.false c.after_record.ensures

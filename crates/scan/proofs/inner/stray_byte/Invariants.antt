@@ -1,11 +1,9 @@
 -- `scan::inner::stray_byte` finds the lowest unused byte that is not 0. The loop's invariant: none before is.
-use mathlib.Core.Path.{◌≡◌, sym, ◌∙◌}
+use mathlib.Core.Path.{◌≡◌}
 use Prim.Native.Nat.{◌-◌, ◌≤◌}
-use native.Mathlib.Omega.{arith}
 use Rattle.laws.specs.Below.{first_where}
 use Rattle.records.specs.Records.{record_bytes, is_stray_byte}
 use Rattle.tracks.specs.Faults.{used_by}
-use Rattle.scan.proofs.Judging.{stray_begins, stray_next, stray_here}
 use Rattle.scan.proofs.inner.stray_byte.Given as goal
 
 abbrev pub invariant-loop-k : goal.invariant-loop-k

@@ -2,7 +2,6 @@ use Prim.Native.Nat.{ℕ}
 use mathlib.Core.Path.{◌≡◌, ap₂}
 use mathlib.Core.Bool.{Bool, false, ◌&&◌}
 use lib.Dec.{leb}
-use borrow.Author.Rules.{rules}
 use borrow.Author.Tests.{eq-eqb, ne_eqb}
 use Rattle.laws.proofs.Tests.{answered_no, answered_yes}
 use Rattle.steps.specs.declared.Progress.{Progress}
@@ -32,8 +31,7 @@ both_judged k = ap₂ (λ (s g : Bool). s && g) k.is_vertex.ensures k.is_vertex-
 pub returns-then-not-on_board : goal.returns-then-not-on_board
 unfolding net_step
 returns-then-not-on_board c =
-    let k = c in
-    let off = answered_no (both_judged k) c.if-not-on_board.true-raw in
+    let off = answered_no (both_judged c) c.if-not-on_board.true-raw in
     rw (ne_eqb _ 0 c.if-i-eq0.false, ordered c, off)
 
 -- what 17 lets through has a number above the last, wherever its ends are
@@ -47,6 +45,5 @@ both_judged_2 k = ap₂ (λ (s g : Bool). s && g) k.is_vertex.ensures k.is_verte
 pub returns : goal.returns
 unfolding net_step
 returns c =
-    let k = c in
-    let on = answered_yes (both_judged_2 k) c.if-not-on_board.false-raw in
+    let on = answered_yes (both_judged_2 c) c.if-not-on_board.false-raw in
     rw (ne_eqb _ 0 c.if-i-eq0.false, ordered_2 c, on)

@@ -1,13 +1,10 @@
-use mathlib.Core.Path.{◌≡◌, refl, ap, ◌∙◌}
-use mathlib.Core.List.{List}
-use Prim.Native.Nat.{ℕ, ◌+◌, ◌*◌, ◌-◌, ◌≤◌, ◌<◌}
+use mathlib.Core.Path.{refl, ap, ◌∙◌}
+use Prim.Native.Nat.{ℕ, ◌+◌, ◌≤◌, ◌<◌}
 use native.Mathlib.Omega.{arith}
-use borrow.Author.Rules.{rules}
 use lib.ListN.{length, get_or}
-use Rattle.tracks.specs.Layout.{slices}
 use Rattle.tracks.specs.Inner.{records_for}
 use Rattle.tally.proofs.Parts.{records_few}
-use Rattle.tally.proofs.Measuring.{Judged, judged_none, low_refused, long_refused, judged_more, judged_all}
+use Rattle.tally.proofs.Measuring.{judged_none, low_refused, long_refused, judged_more, judged_all}
 use Rattle.tally.proofs.inner.measure.Goals as goal
 
 pub loop-k-init : goal.loop-k-init
@@ -18,7 +15,7 @@ there : (c : goal.Then-net-last) → c.loop-k.k < length c.args.nets.now
 there c = omega (arith, c.loop-k.invariant.1)
 
 pub returns-then-net-last : goal.returns-then-net-last
-returns-then-net-last c = let into = c in λ xs ys. low_refused (into.loop-k.invariant.5 xs ys) (there into) (omega (arith, c.if-net-last.true))
+returns-then-net-last c = λ xs ys. low_refused (c.loop-k.invariant.5 xs ys) (there c) (omega (arith, c.if-net-last.true))
 
 -- there is such a net
 there_2 : (c : goal.Then-count-gt-PLACES) → c.loop-k.k < length c.args.nets.now
@@ -26,18 +23,14 @@ there_2 c = omega (arith, c.loop-k.invariant.1)
 
 -- its number is above the one before
 rises : (c : goal.Then-count-gt-PLACES) →
-    let at = c in
-    at.loop-k.last < get_or at.args.nets.now at.loop-k.k 0
+    c.loop-k.last < get_or c.args.nets.now c.loop-k.k 0
 rises c = c.if-net-last.false
 
 pub returns-then-count-gt-PLACES : goal.returns-then-count-gt-PLACES
 returns-then-count-gt-PLACES c =
-    let high = c in
-    let counted = high in
-    let into = counted in
-    -- a path has more points than there_2 are places
-    let long : 65536 < counted.count_of-count.result = c.if-count-gt-PLACES.true in
-    λ xs ys. long_refused (into.loop-k.invariant.5 xs ys) (there_2 into) (rises high) (omega (arith, long, counted.count_of-count.ensures))
+    -- a path has more points than there are places
+    let long : 65536 < c.count_of-count.result = c.if-count-gt-PLACES.true in
+    λ xs ys. long_refused (c.loop-k.invariant.5 xs ys) (there_2 c) (rises c) (omega (arith, long, c.count_of-count.ensures))
 
 -- there is such a net
 there_3 : (c : goal.After-records_for-at) → c.loop-k.k < length c.args.nets.now
@@ -45,8 +38,7 @@ there_3 c = omega (arith, c.loop-k.invariant.1)
 
 -- its number is above the one before
 rises_2 : (c : goal.After-records_for-at) →
-    let at = c in
-    at.loop-k.last < get_or at.args.nets.now at.loop-k.k 0
+    c.loop-k.last < get_or c.args.nets.now c.loop-k.k 0
 rises_2 c = c.if-net-last.false
 
 -- the net has few records
@@ -55,20 +47,15 @@ few c = omega (arith, c.records_for-at.ensures, records_few c.count_of-count.res
 
 pub loop-k-preserved : goal.loop-k-preserved
 loop-k-preserved c =
-    let fits = c in
-    let high = fits in
-    let counted = high in
-    let read = counted in
-    let into = read in
-    let l = into.loop-k in
-    let at-is = ap (λ (n : ℕ). l.at + n) (c.records_for-at.ensures ∙ ap records_for counted.count_of-count.ensures) in
-    let points-is = ap (λ (n : ℕ). l.points + n) counted.count_of-count.ensures in (
+    let l = c.loop-k in
+    let at-is = ap (λ (n : ℕ). l.at + n) (c.records_for-at.ensures ∙ ap records_for c.count_of-count.ensures) in
+    let points-is = ap (λ (n : ℕ). l.points + n) c.count_of-count.ensures in (
       omega arith,
       l.invariant.1,
-      omega (arith, few c, l.invariant.2, high.if-net-last.false),
-      omega (arith, fits.if-count-gt-PLACES.false, l.invariant.3, high.if-net-last.false),
-      omega (arith, read.shared_slice_known-in-loop-k-1.given l.k),
-      λ xs ys. judged_more (l.invariant.5 xs ys) (there_3 into) (rises_2 high) (omega (arith, fits.if-count-gt-PLACES.false, counted.count_of-count.ensures)) at-is points-is,
+      omega (arith, few c, l.invariant.2, c.if-net-last.false),
+      omega (arith, c.if-count-gt-PLACES.false, l.invariant.3, c.if-net-last.false),
+      omega (arith, c.shared_slice_known-in-loop-k-1.given l.k),
+      λ xs ys. judged_more (l.invariant.5 xs ys) (there_3 c) (rises_2 c) (omega (arith, c.if-count-gt-PLACES.false, c.count_of-count.ensures)) at-is points-is,
     )
 
 pub returns : goal.returns

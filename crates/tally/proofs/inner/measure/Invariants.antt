@@ -1,14 +1,10 @@
 -- `tally::inner::measure` judges net by net. The loop's invariant: the records of the nets before pass.
-use mathlib.Core.Path.{◌≡◌, refl, ap, ◌∙◌}
+use mathlib.Core.Path.{◌≡◌}
 use mathlib.Core.List.{List}
-use Prim.Native.Nat.{ℕ, ◌+◌, ◌*◌, ◌-◌, ◌≤◌, ◌<◌}
-use native.Mathlib.Omega.{arith}
-use borrow.Author.Rules.{rules}
-use lib.ListN.{length, get_or}
+use Prim.Native.Nat.{ℕ, ◌*◌, ◌-◌, ◌≤◌}
+use lib.ListN.{length}
 use Rattle.tracks.specs.Layout.{slices}
-use Rattle.tracks.specs.Inner.{records_for}
-use Rattle.tally.proofs.Parts.{records_few}
-use Rattle.tally.proofs.Measuring.{Judged, judged_none, low_refused, long_refused, judged_more, judged_all}
+use Rattle.tally.proofs.Measuring.{Judged}
 use Rattle.tally.proofs.inner.measure.Given as goal
 
 abbrev pub invariant-loop-k : goal.invariant-loop-k

@@ -1,13 +1,9 @@
 use mathlib.Core.Path.{◌≡◌}
 use mathlib.Core.Bool.{true}
 use mathlib.Core.List.{[]}
-use Prim.Native.Nat.{ℕ, ◌+◌, ◌-◌, ◌≤◌}
 use native.Mathlib.Omega.{arith}
-use borrow.Author.Rules.{rules}
-use Rattle.laws.specs.Below.{first_where}
 use Rattle.laws.proofs.Below.{none_yet, none_more}
 use Rattle.board.specs.Board.{board}
-use Rattle.records.specs.Records.{records}
 use Rattle.bureau.specs.Paths.{is_off, off_place}
 use Rattle.bureau.specs.Inner.{record_points}
 use Rattle.bureau.proofs.Finding.{first_found, first_done}
@@ -20,23 +16,17 @@ loop-k-init c = (omega arith, omega arith, none_yet _)
 pub returns-then-not-is_vertex : goal.returns-then-not-is_vertex
 unfolding off_place
 returns-then-not-is_vertex c =
-    let on = c in
-    let y = on in
-    let x = y in
-    let l = x.loop-k in
-    let a = x.args in
+    let l = c.loop-k in
+    let a = c.args in
     -- the point is off the board
     let off : is_off (board [] a.width a.height) (record_points a.file.now a.first l.k) ≡ true =
-    off_told _ _ x.byte_of-x.ensures y.byte_of-y.ensures on.is_vertex.ensures c.if-not-is_vertex.true-raw in
+    off_told _ _ c.byte_of-x.ensures c.byte_of-y.ensures c.is_vertex.ensures c.if-not-is_vertex.true-raw in
     λ cells. first_found _ l.invariant.2 off (omega arith)
 
 pub loop-k-preserved : goal.loop-k-preserved
 loop-k-preserved c =
-    let on = c in
-    let y = on in
-    let x = y in
-    let l = x.loop-k in
-    (omega arith, l.invariant.1, none_more _ l.k l.invariant.2 (off_told _ _ x.byte_of-x.ensures y.byte_of-y.ensures on.is_vertex.ensures c.if-not-is_vertex.false-raw))
+    let l = c.loop-k in
+    (omega arith, l.invariant.1, none_more _ l.k l.invariant.2 (off_told _ _ c.byte_of-x.ensures c.byte_of-y.ensures c.is_vertex.ensures c.if-not-is_vertex.false-raw))
 
 pub returns : goal.returns
 unfolding off_place

@@ -1,18 +1,12 @@
 -- `waypoints::inner::first_off` looks through the points. The loop's invariant: those before are on the board.
 use mathlib.Core.Path.{◌≡◌}
-use mathlib.Core.Bool.{true}
 use mathlib.Core.List.{[]}
 use Prim.Native.Nat.{ℕ, ◌+◌, ◌-◌, ◌≤◌}
-use native.Mathlib.Omega.{arith}
-use borrow.Author.Rules.{rules}
 use Rattle.laws.specs.Below.{first_where}
-use Rattle.laws.proofs.Below.{none_yet, none_more}
 use Rattle.board.specs.Board.{board}
 use Rattle.records.specs.Records.{records}
-use Rattle.bureau.specs.Paths.{is_off, off_place}
+use Rattle.bureau.specs.Paths.{is_off}
 use Rattle.bureau.specs.Inner.{record_points}
-use Rattle.bureau.proofs.Finding.{first_found, first_done}
-use Rattle.waypoints.proofs.Reading.{off_told}
 use Rattle.waypoints.proofs.inner.first_off.Given as goal
 
 abbrev pub invariant-loop-k : goal.invariant-loop-k

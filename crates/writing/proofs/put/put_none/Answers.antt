@@ -1,35 +1,24 @@
 use Rattle.putting.proofs.Puts.{room_front, room_middle, room_last, put_three}
 use Rattle.lines.proofs.Fields.{none_parts}
-use borrow.Author.Rules.{rules}
 use Rattle.writing.proofs.put.put_none.Goals as goal
 
 pub put_number-counts-requires : goal.put_number-counts-requires
 put_number-counts-requires c =
-    let start = c in
-    let a = start.args in
-    room_front (none_parts a.number a.expansions a.tests) start.requires
+    let a = c.args in
+    room_front (none_parts a.number a.expansions a.tests) c.requires
 
 pub put_both-end-requires : goal.put_both-end-requires
 put_both-end-requires c =
-    let number = c in
-    let start = number in
-    let a = start.args in
-    room_middle (none_parts a.number a.expansions a.tests) start.requires number.put_number-counts.ensures
+    let a = c.args in
+    room_middle (none_parts a.number a.expansions a.tests) c.requires c.put_number-counts.ensures
 
 pub put_newline-requires : goal.put_newline-requires
 put_newline-requires c =
-    let both = c in
-    let number = both in
-    let start = number in
-    let a = start.args in
-    room_last (none_parts a.number a.expansions a.tests) start.requires number.put_number-counts.ensures both.put_both-end.ensures
+    let a = c.args in
+    room_last (none_parts a.number a.expansions a.tests) c.requires c.put_number-counts.ensures c.put_both-end.ensures
 
 pub returns : goal.returns
 returns c =
-    let newline = c in
-    let both = newline in
-    let number = both in
-    let start = number in
-    let a = start.args in
-    put_three (none_parts a.number a.expansions a.tests) start.requires number.put_number-counts.ensures both.put_both-end.ensures
-    newline.put_newline.ensures
+    let a = c.args in
+    put_three (none_parts a.number a.expansions a.tests) c.requires c.put_number-counts.ensures c.put_both-end.ensures
+    c.put_newline.ensures

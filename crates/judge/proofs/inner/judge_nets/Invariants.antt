@@ -1,0 +1,28 @@
+-- `judge::inner::judge_nets` judges net after net. The loop's invariant: those before passed, and the work slices are as their searches left them.
+use mathlib.Core.Path.{◌≡◌, refl}
+use Prim.Native.Nat.{ℕ, ◌-◌, ◌≤◌}
+use native.Mathlib.Omega.{arith}
+use borrow.Author.Rules.{rules}
+use lib.ListN.{length}
+use Rattle.laws.proofs.Tests.{answered_no, answered_yes}
+use Rattle.board.specs.Board.{board}
+use Rattle.board.specs.Handed.{passes}
+use Rattle.records.specs.Records.{in_order}
+use Rattle.records.proofs.InOrder.{none_yet}
+use Rattle.tracks.specs.Tracks.{routes_in}
+use Rattle.bureau.specs.Nets.{net_row}
+use Rattle.bureau.specs.Answers.{Searching, searching, after_nets}
+use Rattle.bureau.specs.Inner.{Room, OnJob}
+use Rattle.bureau.proofs.Answering.{none_judged}
+use Rattle.judge.proofs.Judging.{room_same, ends_for, judged_next, judged_work, judged_stop, judged_done}
+use Rattle.judge.proofs.inner.judge_nets.Given as goal
+
+abbrev pub invariant-loop-index : goal.invariant-loop-index
+invariant-loop-index l =
+    (l.index ≤ l.nets) × OnJob l.job l.file l.cells l.width l.height l.nets × Room (board l.cells l.width l.height) (searching l.initial.g l.initial.parents l.initial.marks l.initial.legs)
+    × (length l.g ≡ length l.initial.g) × (length l.parents ≡ length l.initial.parents) × (length l.marks ≡ length l.initial.marks) × (length l.legs ≡ length l.initial.legs)
+    × (in_order l.index (net_row l.job (routes_in l.file)) ≡ passes)
+    × (searching l.g l.parents l.marks l.legs ≡ after_nets l.job (routes_in l.file) l.index (searching l.initial.g l.initial.parents l.initial.marks l.initial.legs))
+
+abbrev pub decreases-loop-index : goal.decreases-loop-index
+decreases-loop-index l = l.nets - l.index
