@@ -18,7 +18,7 @@ use Rattle.reach.specs.Turns.{at}
 use Rattle.theta.specs.Order.{Rank, ranked, sooner, least}
 use Rattle.theta.specs.Lent.{Better}
 use Rattle.ranks.specs.Ranks.{seen, numbers}
-use Rattle.tournament.specs.Contest.{no_key, WellRanked}
+use Rattle.tournament.specs.Contest.{no_key}
 use Rattle.tournament.specs.Tournament.{Else, Opened}
 use Rattle.tournament.specs.Nodes.{Entered, Renewed}
 use Rattle.open.specs.Groups.{leaf_at, groups_of, nodes_of}
@@ -27,7 +27,7 @@ use Rattle.theta.proofs.Order.{sooner_lower, sooner_fewer}
 use Rattle.tournament.proofs.Playing.{tournament_none, key_now}
 use Rattle.tournament.proofs.Scanning.{root_least, root_on, root_none}
 use Rattle.open.proofs.Grouping.{planted, leaves_positive, leaf_number}
-use Rattle.open.proofs.Looking.{contest_shown, contest_fair, to_goal_lem, numbers_most}
+use Rattle.open.proofs.Looking.{contest_shown, contest_fair, to_goal_lem}
 
 -- ---- what a change of the entries does to the contest
 

@@ -32,15 +32,16 @@ pub fn never() -> bool
 }
 
 // Hands line `index` of the job, counted from 0, to the system: the bytes are the definition's. Says whether it took them all.
-fn send(job: &[u8], index: usize, bytes: &[u8]) -> bool
+fn send<R: Print + Eprint>(rt: &R, job: &[u8], index: usize, bytes: &[u8]) -> bool
     requires index_bound { index < line_count job.now }
     requires bytes_value { bytes.now ≡ line_at job.now index }
 {
-    write_whole(bytes)
+    write_whole(rt, bytes)
 }
 
 // Composes a line in the buffer and sends it.
-fn print(
+fn print<R: Print + Eprint>(
+    rt: &R,
     job: &[u8],
     index: usize,
     line: Line,
@@ -53,20 +54,25 @@ fn print(
     requires path_in_bounds { length (bytes_of line width path.now) ≤ length buffer.old }
 {
     match write_line(line, width, path, buffer) {
-        lines::Answer::Written(n) => send(job, index, &buffer[..n]),
+        lines::Answer::Written(n) => send(rt, job, index, &buffer[..n]),
         lines::Answer::Short => never(),
     }
 }
 
 // Prints a refused job's one line, which names no vertex.
-pub fn print_refusal(job: &[u8], why: JobRefusal, buffer: &mut [u8]) -> Sent
+pub fn print_refusal<R: Print + Eprint>(
+    rt: &R,
+    job: &[u8],
+    why: JobRefusal,
+    buffer: &mut [u8],
+) -> Sent
     requires job_value { job_rows job.now ≡ refusal_row why }
     requires line_room_in_bounds { line_room ≤ length buffer.old }
     ensures { AllSent job.now result }
 {
     let unnamed = [0 as Vertex; 1];
     let line = refusal_line(why.number(), why.place() as u64, why.second() as u64);
-    if !print(job, 0, line, 0, &unnamed, buffer) {
+    if !print(rt, job, 0, line, 0, &unnamed, buffer) {
         return Sent {
             lines: 0,
             lost: true,
@@ -79,7 +85,8 @@ pub fn print_refusal(job: &[u8], why: JobRefusal, buffer: &mut [u8]) -> Sent
 }
 
 // Prints what was found for a net.
-pub fn print_answer(
+pub fn print_answer<R: Print + Eprint>(
+    rt: &R,
     job: &[u8],
     index: usize,
     number: u64,
@@ -106,7 +113,7 @@ pub fn print_answer(
                 expansions,
                 tests,
             };
-            print(job, index, line, width, &path[..vertices], buffer)
+            print(rt, job, index, line, width, &path[..vertices], buffer)
         }
         Answer::NoPath { expansions, tests } => {
             let line = Line::None {
@@ -114,7 +121,7 @@ pub fn print_answer(
                 expansions,
                 tests,
             };
-            print(job, index, line, width, path, buffer)
+            print(rt, job, index, line, width, path, buffer)
         }
         Answer::Refused(_) => never(),
         Answer::Work => never(),

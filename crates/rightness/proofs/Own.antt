@@ -8,10 +8,10 @@ use native.Mathlib.Omega.{arith}
 use lib.Dec.{leb, ltb, eqb}
 use lib.ListN.{length}
 use borrow.Author.Tests.{eqb-true, eq-eqb, ne_eqb, lt-ltb, ltb-true, le-leb, leb-true, leb-false}
-use Rattle.laws.specs.Below.{some, how_many, first_where}
+use Rattle.laws.specs.Below.{how_many, first_where}
 use Rattle.laws.proofs.Tests.{order, bool_cases, and_left, and_right, and_both, or_left, or_right, or_cases, same_test}
 use Rattle.laws.proofs.Below.{indexed, indexed_here, indexed_below, indexed_does_pass, many_above, some_first, first_passes, first_before}
-use Rattle.board.specs.Board.{Board, board, vertices, number, column, row, is_vertex}
+use Rattle.board.specs.Board.{Board, vertices, number, column, row, is_vertex}
 use Rattle.board.specs.Inner.{OnBoard}
 use Rattle.board.specs.Handed.{passes}
 use Rattle.board.specs.Handed as handed

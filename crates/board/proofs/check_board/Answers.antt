@@ -1,10 +1,8 @@
 use mathlib.Core.Path.{◌≡◌, sym}
 use mathlib.Core.Bool.{true, ◌&&◌}
-use native.Mathlib.Omega.{arith}
-use borrow.Author.Rules.{rules}
 use Rattle.laws.proofs.Tests.{and_both, answered_no, answered_yes}
 use Rattle.board.specs.Handed.{side_fits}
-use Rattle.board.proofs.Rows.{rows_width, rows_height, rows_count, rows_byte, rows_pass, cells_few}
+use Rattle.board.proofs.Rows.{rows_width, rows_height, rows_count, rows_byte, rows_pass}
 use Rattle.board.proofs.check_board.Goals as goal
 
 pub returns-then-not-side_fits : goal.returns-then-not-side_fits

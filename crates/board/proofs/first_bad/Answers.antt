@@ -1,11 +1,9 @@
-use mathlib.Core.Path.{◌≡◌, sym, ◌∙◌}
-use Prim.Native.Nat.{◌+◌, ◌-◌, ◌≤◌}
+use mathlib.Core.Path.{sym, ◌∙◌}
 use native.Mathlib.Omega.{arith}
-use borrow.Author.Rules.{rules}
 use borrow.Author.Tests.{not-true, ltb-false}
-use lib.ListN.{length, drop}
+use lib.ListN.{length}
 use Rattle.board.specs.Handed.{first_bad}
-use Rattle.board.proofs.Bytes.{bad_here, bad_later, bad_never, bad_le}
+use Rattle.board.proofs.Bytes.{bad_here, bad_later, bad_le}
 use Rattle.board.proofs.first_bad.Goals as goal
 
 pub returns-then-not-has_bad : goal.returns-then-not-has_bad

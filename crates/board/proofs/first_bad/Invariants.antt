@@ -1,12 +1,8 @@
 -- `board::first_bad` finds the first byte that is not 0 or 1. The loop's invariant: it lies as far on as the first bad byte of what is left.
-use mathlib.Core.Path.{◌≡◌, sym, ◌∙◌}
+use mathlib.Core.Path.{◌≡◌}
 use Prim.Native.Nat.{◌+◌, ◌-◌, ◌≤◌}
-use native.Mathlib.Omega.{arith}
-use borrow.Author.Rules.{rules}
-use borrow.Author.Tests.{not-true, ltb-false}
 use lib.ListN.{length, drop}
 use Rattle.board.specs.Handed.{first_bad}
-use Rattle.board.proofs.Bytes.{bad_here, bad_later, bad_never, bad_le}
 use Rattle.board.proofs.first_bad.Given as goal
 
 abbrev pub invariant-loop-i : goal.invariant-loop-i

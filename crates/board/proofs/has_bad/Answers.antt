@@ -1,9 +1,6 @@
-use mathlib.Core.Path.{◌≡◌, refl, sym, ◌∙◌}
-use mathlib.Core.Bool.{◌||◌}
-use Prim.Native.Nat.{◌-◌, ◌≤◌}
+use mathlib.Core.Path.{◌∙◌}
 use native.Mathlib.Omega.{arith}
-use lib.ListN.{length, drop}
-use Rattle.board.proofs.Bytes.{has_bad, bad_so_far, bad_at_end}
+use Rattle.board.proofs.Bytes.{bad_so_far}
 use Rattle.board.proofs.has_bad.Goals as goal
 
 pub loop-i-preserved : goal.loop-i-preserved

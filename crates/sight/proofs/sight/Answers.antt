@@ -15,9 +15,8 @@ checked_is k = k.check_leg.ensures
 
 -- the leg is accepted
 accepted : (c : goal.In-Accepted) →
-    let k = c in
-    let a = k.args in
-    leg_rows (asked k) a.ax a.ay a.bx a.by ≡ passes
+    let a = c.args in
+    leg_rows (asked c) a.ax a.ay a.bx a.by ≡ passes
 accepted c =
     let a = c.args in
     rows_pass (asked c) a.ax a.ay a.bx a.by c.check_leg.result (checked_is c) c.in-Accepted.is
@@ -53,9 +52,8 @@ checked_is_3 k = k.check_leg.ensures
 
 -- the leg is accepted
 accepted_2 : (c : goal.After-named) →
-    let k = c in
-    let a = k.args in
-    leg_rows (asked_3 k) a.ax a.ay a.bx a.by ≡ passes
+    let a = c.args in
+    leg_rows (asked_3 c) a.ax a.ay a.bx a.by ≡ passes
 accepted_2 c =
     let a = c.args in
     rows_pass (asked_3 c) a.ax a.ay a.bx a.by c.check_leg.result (checked_is_3 c) c.in-Accepted.is

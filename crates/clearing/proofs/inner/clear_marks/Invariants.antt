@@ -1,7 +1,6 @@
 -- `clearing::inner::clear_marks` has written as many zeros as it has come by.
 use Prim.Native.Nat.{◌-◌}
-use native.Mathlib.Omega.{arith}
-use Rattle.clearing.proofs.inner.Filled.{Filled, filled_none, filled_more, filled_all}
+use Rattle.clearing.proofs.inner.Filled.{Filled}
 use Rattle.clearing.proofs.inner.clear_marks.Given as goal
 
 abbrev pub invariant-loop-v : goal.invariant-loop-v

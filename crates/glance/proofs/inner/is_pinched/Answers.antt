@@ -1,7 +1,5 @@
-use native.Mathlib.Omega.{arith}
-use borrow.Author.Rules.{rules}
 use Rattle.board.specs.Board.{Board, board}
-use Rattle.glance.proofs.Copied.{FourThere, LastIn, four_copied, last_in}
+use Rattle.glance.proofs.Copied.{FourThere, four_copied}
 use Rattle.glance.proofs.Pinch.{alike_unpinched, others_decide}
 use Rattle.glance.proofs.inner.is_pinched.Goals as goal
 
@@ -23,9 +21,5 @@ asked_2 s = board s.args.cells.now s.args.width s.args.height
 read_2 : (s : goal.After-shared_slice_known-4-1) → FourThere (asked_2 s) s.args.guard.now s.args.x s.args.y
 read_2 s = four_copied s.requires.guarded s.requires.on_board
 
--- the start, from where they differ
-abbrev start : goal.After-shared_slice_known-4-1 → goal.After-shared_slice_known-4-1
-start c = c
-
 pub returns : goal.returns
-returns c = let d = c in others_decide (read_2 (start d)) d.if-ne-se.false
+returns c = others_decide (read_2 c) c.if-ne-se.false

@@ -1,6 +1,5 @@
-use borrow.Author.Rules.{rules}
 use Rattle.glance.proofs.Seen.{glanced}
 use Rattle.glance.proofs.inner.sighted.Goals as goal
 
 pub returns : goal.returns
-returns c = let s = c in glanced _ s.args.x s.args.y s.requires.on_board c.around-c.ensures
+returns c = glanced _ c.args.x c.args.y c.requires.on_board c.around-c.ensures

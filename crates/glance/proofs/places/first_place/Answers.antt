@@ -1,5 +1,4 @@
 use native.Mathlib.Omega.{arith}
-use lib.Count.{trailing_le}
 use Rattle.glance.proofs.places.Lowest.{lowest_is}
 use Rattle.glance.proofs.places.first_place.Goals as goal
 

@@ -1,4 +1,3 @@
-use borrow.Author.Rules.{rules}
 use Rattle.glance.proofs.places.Lowest.{without_is}
 use Rattle.glance.proofs.places.without_first.Goals as goal
 

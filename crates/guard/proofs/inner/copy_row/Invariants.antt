@@ -1,9 +1,6 @@
 -- `guard::inner::copy_row` has copied as many cells as it has come by.
 use Prim.Native.Nat.{◌-◌, ◌≤◌}
-use mathlib.Core.Path.{◌≡◌}
-use native.Mathlib.Omega.{arith}
 use Rattle.guard.specs.Copying.{Copied}
-use Rattle.guard.proofs.Copying.{copied_none, copied_more}
 use Rattle.guard.proofs.inner.copy_row.Given as goal
 
 abbrev pub invariant-loop-x : goal.invariant-loop-x

@@ -1,10 +1,6 @@
 -- `guard::inner::copy_rows` has copied as many rows as it has come by.
-use Prim.Native.Nat.{◌+◌, ◌-◌, ◌≤◌}
-use mathlib.Core.Path.{◌≡◌}
-use native.Mathlib.Nat.{mul-le-mul_right}
-use native.Mathlib.Omega.{arith}
+use Prim.Native.Nat.{◌-◌, ◌≤◌}
 use Rattle.guard.specs.Copying.{Rows}
-use Rattle.guard.proofs.Copying.{rows_none, rows_more}
 use Rattle.guard.proofs.inner.copy_rows.Given as goal
 
 abbrev pub invariant-loop-y : goal.invariant-loop-y

@@ -1,9 +1,6 @@
 -- `guard::inner::make_bits` has made as many bits as it has come by.
 use Prim.Native.Nat.{◌-◌, ◌≤◌}
-use mathlib.Core.Path.{◌≡◌}
-use native.Mathlib.Omega.{arith}
 use Rattle.guard.specs.Copying.{Bits}
-use Rattle.guard.proofs.Copying.{bits_none, bits_more}
 use Rattle.guard.proofs.inner.make_bits.Given as goal
 
 abbrev pub invariant-loop-i : goal.invariant-loop-i

@@ -4,7 +4,7 @@ use Rattle.length.specs.Units.{units}
 use Rattle.board.proofs.Verdicts.{accepted, refused_row, refusal_handed}
 use Rattle.spans.specs.Legs.{step, vertex_rows}
 use Rattle.length.specs.Answers.{no_length, length_between_row}
-use Rattle.spans.proofs.Legs.{OnLargest, small_as, small_both, vertices_on}
+use Rattle.spans.proofs.Legs.{OnLargest, small_both, vertices_on}
 use Rattle.length.proofs.Length.between.Goals as goal
 
 pass : (c : goal.In-Accepted) → let a = c.args in vertex_rows a.ax a.ay a.bx a.by ≡ passes
@@ -33,15 +33,13 @@ pass_3 c = accepted c.in-Accepted.is c.check_vertices.ensures
 pub returns-in-Accepted : goal.returns-in-Accepted
 unfolding length_between_row
 returns-in-Accepted c =
-    let k = c in
-    let told = k in
-    let a = told.args in
-    let dx = k.difference.ensures in
-    let dy = k.difference-in-Accepted.ensures in
-    let across : k.difference.result ≡ step a.ax a.bx = dx.value in
-    let down : k.difference-in-Accepted.result ≡ step a.ay a.by = dy.value in
-    rw (pass_3 told, c.units_of-units.ensures, small_both (λ (dx dy : ℤ). units dx dy) (step a.ax a.bx) (step a.ay a.by) across down dx.small dy.small)
+    let a = c.args in
+    let dx = c.difference.ensures in
+    let dy = c.difference-in-Accepted.ensures in
+    let across : c.difference.result ≡ step a.ax a.bx = dx.value in
+    let down : c.difference-in-Accepted.result ≡ step a.ay a.by = dy.value in
+    rw (pass_3 c, c.units_of-units.ensures, small_both (λ (dx dy : ℤ). units dx dy) (step a.ax a.bx) (step a.ay a.by) across down dx.small dy.small)
 
 pub returns-in-Refused : goal.returns-in-Refused
 unfolding length_between_row
-returns-in-Refused c = let k = c in refusal_handed no_length k.in-Refused.why _ (refused_row k.in-Refused.is k.check_vertices.ensures)
+returns-in-Refused c = refusal_handed no_length c.in-Refused.why _ (refused_row c.in-Refused.is c.check_vertices.ensures)

@@ -1,6 +1,4 @@
-use Rattle.std.proofs.Common.{arith, rules}
 use Rattle.length.specs.Floats.{in_cells}
-use Rattle.length.proofs.Floats.{in_float_lem}
 use Rattle.length.proofs.Length.cells.Goals as goal
 
 pub returns : goal.returns

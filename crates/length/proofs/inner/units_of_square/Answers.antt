@@ -1,4 +1,4 @@
-use Rattle.std.proofs.Common.{◌*◌, ◌^◌, rules}
+use Rattle.std.proofs.Common.{◌*◌, ◌^◌}
 use Rattle.root.specs.Root.{Bounds}
 use Rattle.length.proofs.Units.{units_one}
 use Rattle.length.proofs.inner.units_of_square.Goals as goal

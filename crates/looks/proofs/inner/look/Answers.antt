@@ -1,12 +1,12 @@
 use mathlib.Core.Path.{◌≡◌, sym, ap, ◌∙◌}
-use mathlib.Core.Logic.{inl, inr, ◌≢◌}
+use mathlib.Core.Logic.{◌≢◌}
 use mathlib.Core.Bool.{Bool, true, false, ◌||◌, cond}
 use mathlib.Core.List.{List}
 use Prim.Native.Nat.{ℕ, ◌+◌, ◌^◌, ◌≤◌, ◌<◌}
 use native.Mathlib.Omega.{arith}
 use lib.Dec.{eqb, ltb}
-use lib.ListN.{length, set, length-set}
-use Rattle.laws.proofs.Tests.{answered_no, answered_yes}
+use lib.ListN.{set}
+use Rattle.laws.proofs.Tests.{answered_yes}
 use Rattle.board.specs.Limits.{most_vertices}
 use Rattle.reach.specs.Turns.{at}
 use Rattle.theta.specs.Order.{less_or}
@@ -15,7 +15,7 @@ use Rattle.theta.specs.Lent.{state}
 use Rattle.problem.specs.Problem.{problem}
 use Rattle.problem.specs.Sizes.{largest}
 use Rattle.offers.specs.Request.{board_of, asked, size_of}
-use Rattle.theta.proofs.Rounds.{look_far, look_done, look_due, fell, ready_candidate}
+use Rattle.theta.proofs.Rounds.{look_due, fell, ready_candidate}
 use Rattle.problem.proofs.Fair.{board_legs}
 use Rattle.problem.proofs.Sizes.{vertices_most, largest_fits}
 use Rattle.offers.proofs.Places.{placed_below, taken_admitted, seen_admitted}
@@ -62,10 +62,9 @@ abbrev asking : goal.After-struct_known-1 → Problem
 asking s = asked s.args.cells.now s.args.request
 
 -- the candidate parent: the definition's, a vertex, and one whose g and legs are bounded
-from_is : (k : goal.After-struct_known-1) → let s = k in
-    let a = s.args in
+from_is : (k : goal.After-struct_known-1) → let a = k.args in
     let o = at a.parents.now a.u.number in
-    k.candidate-offer.result.parent ≡ cond ((asking s).sees o a.w.number) o a.u.number
+    k.candidate-offer.result.parent ≡ cond ((asking k).sees o a.w.number) o a.u.number
 from_is k = rw k.requires.taken.parent_is k.candidate-offer.ensures.parent_is
 
 from_on : (k : goal.After-struct_known-1) → let a = k.args in
@@ -126,10 +125,9 @@ abbrev asking_2 : goal.After-settle-arg-then-wins-5-1 → Problem
 asking_2 s = asked s.args.cells.now s.args.request
 
 -- the candidate parent: the definition's, a vertex, and one whose g and legs are bounded
-from_is_2 : (k : goal.After-settle-arg-then-wins-5-1) → let s = k in
-    let a = s.args in
+from_is_2 : (k : goal.After-settle-arg-then-wins-5-1) → let a = k.args in
     let o = at a.parents.now a.u.number in
-    k.candidate-offer.result.parent ≡ cond ((asking_2 s).sees o a.w.number) o a.u.number
+    k.candidate-offer.result.parent ≡ cond ((asking_2 k).sees o a.w.number) o a.u.number
 from_is_2 k = rw k.requires.taken.parent_is k.candidate-offer.ensures.parent_is
 
 from_on_2 : (k : goal.After-settle-arg-then-wins-5-1) → let a = k.args in
@@ -206,10 +204,9 @@ abbrev lent : goal.Joined-wins → State
 lent s = let a = s.args in state a.g.now a.parents.now a.marks.now a.legs.now 0 a.tests
 
 -- the candidate parent: the definition's, a vertex, and one whose g and legs are bounded
-from_is_3 : (k : goal.Joined-wins) → let s = k in
-    let a = s.args in
+from_is_3 : (k : goal.Joined-wins) → let a = k.args in
     let o = at a.parents.now a.u.number in
-    k.candidate-offer.result.parent ≡ cond ((asking_3 s).sees o a.w.number) o a.u.number
+    k.candidate-offer.result.parent ≡ cond ((asking_3 k).sees o a.w.number) o a.u.number
 from_is_3 k = rw k.requires.taken.parent_is k.candidate-offer.ensures.parent_is
 
 -- the candidate g

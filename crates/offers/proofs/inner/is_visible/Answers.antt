@@ -1,6 +1,5 @@
 use mathlib.Core.Path.{sym, ◌∙◌}
 use mathlib.Core.Logic.{◌≢◌}
-use borrow.Author.Rules.{rules}
 use Rattle.offers.proofs.Places.{beside_near}
 use Rattle.offers.proofs.inner.is_visible.Goals as goal
 

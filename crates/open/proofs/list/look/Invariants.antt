@@ -1,14 +1,7 @@
 -- `open::list::look` goes along the group with the first open vertex so far.
-use mathlib.Core.Bool.{true, false}
-use mathlib.Core.Path.{◌≡◌}
-use mathlib.Core.Logic.{⊎_elim}
-use Prim.Native.Nat.{◌+◌, ◌-◌, ◌*◌, ◌≤◌, ◌<◌}
-use native.Mathlib.Omega.{arith}
-use Rattle.board.specs.Limits.{most_vertices}
-use Rattle.reach.specs.Turns.{at}
-use Rattle.table.proofs.Table.{known_leg}
+use Prim.Native.Nat.{◌+◌, ◌-◌, ◌≤◌}
 use Rattle.open.specs.Groups.{group_start, group_end}
-use Rattle.open.proofs.Looking.{units_small, vertices_most, group_filled, strip_below, Looking, looking_start, looking_closed, looking_open, looked}
+use Rattle.open.proofs.Looking.{Looking}
 use Rattle.open.proofs.list.look.Given as goal
 
 abbrev pub invariant-loop-v : goal.invariant-loop-v

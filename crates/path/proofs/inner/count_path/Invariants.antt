@@ -1,10 +1,7 @@
 -- `path::inner::count_path` counts from the goal back.
-use mathlib.Core.Path.{◌≡◌}
-use Prim.Native.Nat.{◌+◌, ◌-◌, ◌≤◌, ◌<◌}
-use native.Mathlib.Omega.{arith}
+use Prim.Native.Nat.{◌-◌, ◌≤◌}
 use lib.ListN.{length}
-use Rattle.reach.specs.Turns.{at}
-use Rattle.path.proofs.Reading.{Reading, reading_start, reading_next, reading_end}
+use Rattle.path.proofs.Reading.{Reading}
 use Rattle.path.proofs.inner.count_path.Given as goal
 
 abbrev pub invariant-loop-v : goal.invariant-loop-v

@@ -1,12 +1,10 @@
 -- `path::inner::write_path` writes from the goal back: the places from i on hold the path.
-use mathlib.Core.Path.{◌≡◌, refl, sym}
-use mathlib.Core.List.{List, ◌++◌}
-use Prim.Native.Nat.{ℕ, ◌-◌, ◌≤◌, ◌<◌}
-use native.Mathlib.Omega.{arith}
-use lib.ListN.{length, take, drop, length-set}
+use mathlib.Core.Path.{◌≡◌}
+use mathlib.Core.List.{◌++◌}
+use Prim.Native.Nat.{◌-◌, ◌≤◌}
+use lib.ListN.{length, take, drop}
 use Rattle.reach.specs.Turns.{at}
 use Rattle.theta.specs.Search.{trail}
-use Rattle.path.proofs.Reading.{path_length, path_first, path_last, path_later, path_prev, write_none, write_more}
 use Rattle.path.proofs.inner.write_path.Given as goal
 
 abbrev pub invariant-loop-i : goal.invariant-loop-i

@@ -1,8 +1,6 @@
-use mathlib.Core.Logic.{⊎_elim}
-use Prim.Native.Nat.{◌+◌, ◌*◌, ◌-◌, ◌/◌, ◌≤◌, ◌<◌}
+use Prim.Native.Nat.{◌+◌, ◌*◌, ◌/◌, ◌≤◌, ◌<◌}
 use native.Mathlib.Omega.{arith}
-use lib.Count.{count_leading_zeros}
-use Rattle.root.proofs.inner.Digits.{word, quarter, Digits, skip_short, digits_start, digits_end, root_short, remainder_short, remainder_shift, root_shift, root_double, pair, digit_0, digit_1}
+use Rattle.root.proofs.inner.Digits.{word, quarter, digits_start, remainder_shift, root_shift, root_double, digit_0, digit_1}
 use Rattle.root.proofs.inner.root.Goals as goal
 use Rattle.root.proofs.inner.root.Goals.{then-trial-remainder, else-trial-remainder}
 

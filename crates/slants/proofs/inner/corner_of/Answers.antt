@@ -1,7 +1,6 @@
 use mathlib.Core.Path.{◌≡◌}
 use native.Mathlib.Nat.{mod-le, div-le_self}
 use native.Mathlib.Omega.{arith}
-use borrow.Author.Rules.{rules}
 use Rattle.walls.specs.Leg.{forward}
 use Rattle.slants.specs.Walk.{corner_of}
 use Rattle.walls.proofs.leg.Indices.{forward_fits}

@@ -1,27 +1,21 @@
-use Prim.Native.Nat.{ℕ, ◌+◌, ◌-◌, ◌<◌}
+use Prim.Native.Nat.{ℕ, ◌+◌, ◌<◌}
 use mathlib.Core.Path.{◌≡◌, refl, sym, subst, ◌∙◌}
-use mathlib.Core.Logic.{⊎_elim}
 use native.Mathlib.Omega.{arith}
-use borrow.Author.Rules.{rules}
 use lib.ListN.{get_or}
 use Rattle.board.specs.Board.{Board, board}
-use Rattle.slants.proofs.inner.Places.{come, Slanted, n_small, m_small, count_small, corner_small, start_fits, end_fits}
-use Rattle.slants.proofs.inner.Turns.{AtColumn, AtCell, ColumnLeft, walk_starts, column_entered, come_here, cell_read, row_small, row_fits, walk_stopped, next_row, corner, cell_passed, left_inside, sums_small, sums_fit, cells_read_lem, left_corner, walk_pinched, walk_ended, ahead_fits, column_small, column_fits, column_less, column_passed}
+use Rattle.slants.proofs.inner.Places.{come, Slanted, count_small, corner_small, start_fits, end_fits}
+use Rattle.slants.proofs.inner.Turns.{ColumnLeft, walk_starts, column_entered, come_here, cell_read, row_small, row_fits, walk_stopped, next_row, corner, cell_passed, left_inside, sums_small, sums_fit, cells_read_lem, left_corner, walk_pinched, walk_ended, column_small, column_fits, column_less, column_passed}
 use Rattle.slants.proofs.inner.first_blocked.Goals as goal
 use Rattle.slants.proofs.inner.first_blocked.Goals.{then-ahead-m+else-cell-last+else-is_pinch, else-ahead-m}
 
--- the call's start, where the leg has been measured
-abbrev begun : goal.After-steps_of-step → goal.After-steps_of-step
-begun c = c
-
 abbrev asked : goal.After-steps_of-step → Board
-asked c = let a = (begun c).args in board a.cells.now a.width a.height
+asked c = let a = c.args in board a.cells.now a.width a.height
 
 slanted : (c : goal.After-steps_of-step) →
-    let a = (begun c).args in
+    let a = c.args in
     Slanted (asked c) a.ax a.ay a.bx a.by c.distance-n.result c.distance-m.result c.steps_of-step.result
 slanted c =
-    let p = (begun c).requires in
+    let p = c.requires in
     let n_is = c.distance-n.ensures in
     let m_is = c.distance-m.ensures in
     record {
@@ -36,21 +30,16 @@ slanted c =
 
 pub cell_beside-last-requires : goal.cell_beside-last-requires
 cell_beside-last-requires c =
-    let s = begun c in
-    (end_fits (slanted c), corner_small (slanted c) s.args.bx s.args.by s.requires.ends_on.second)
-
--- the call's start, where the leg has been measured
-abbrev begun_2 : goal.After-cell_beside-last → goal.After-cell_beside-last
-begun_2 c = c
+    (end_fits (slanted c), corner_small (slanted c) c.args.bx c.args.by c.requires.ends_on.second)
 
 abbrev asked_2 : goal.After-cell_beside-last → Board
-asked_2 c = let a = (begun_2 c).args in board a.cells.now a.width a.height
+asked_2 c = let a = c.args in board a.cells.now a.width a.height
 
 slanted_2 : (c : goal.After-cell_beside-last) →
-    let a = (begun_2 c).args in
+    let a = c.args in
     Slanted (asked_2 c) a.ax a.ay a.bx a.by c.distance-n.result c.distance-m.result c.steps_of-step.result
 slanted_2 c =
-    let p = (begun_2 c).requires in
+    let p = c.requires in
     let n_is = c.distance-n.ensures in
     let m_is = c.distance-m.ensures in
     record {
@@ -65,21 +54,16 @@ slanted_2 c =
 
 pub cell_beside-cell-requires : goal.cell_beside-cell-requires
 cell_beside-cell-requires c =
-    let s = begun_2 c in
-    (start_fits (slanted_2 c), corner_small (slanted_2 c) s.args.ax s.args.ay s.requires.ends_on.first)
-
--- the call's start, where the leg has been measured
-abbrev begun_3 : goal.After-cell_beside-cell → goal.After-cell_beside-cell
-begun_3 c = c
+    (start_fits (slanted_2 c), corner_small (slanted_2 c) c.args.ax c.args.ay c.requires.ends_on.first)
 
 abbrev asked_3 : goal.After-cell_beside-cell → Board
-asked_3 c = let a = (begun_3 c).args in board a.cells.now a.width a.height
+asked_3 c = let a = c.args in board a.cells.now a.width a.height
 
 slanted_3 : (c : goal.After-cell_beside-cell) →
-    let a = (begun_3 c).args in
+    let a = c.args in
     Slanted (asked_3 c) a.ax a.ay a.bx a.by c.distance-n.result c.distance-m.result c.steps_of-step.result
 slanted_3 c =
-    let p = (begun_3 c).requires in
+    let p = c.requires in
     let n_is = c.distance-n.ensures in
     let m_is = c.distance-m.ensures in
     record {
@@ -107,67 +91,48 @@ bounds-cells-cell c = let (v, i) = c.loop-cell.invariant in cell_read i
 pub overflow_add-cell : goal.overflow_add-cell
 overflow_add-cell c = let (v, i) = c.loop-cell.invariant in omega (arith, row_small i)
 
--- where the leg was measured, of a column's start; its columns, its rows and its last cell; and how many columns it has come there
-abbrev measured : goal.After-struct_known-in-loop-cell-1 → goal.After-struct_known-in-loop-cell-1
-measured k = k
-
 abbrev rows : goal.After-struct_known-in-loop-cell-1 → ℕ
-rows k = (measured k).distance-m.result
+rows k = k.distance-m.result
 
 -- it goes on in its column only where the column does not end in this row
-goes_down : (c : goal.After-struct_known-in-loop-cell-1) → let t = c in t.loop-cell.ahead < rows t
+goes_down : (c : goal.After-struct_known-in-loop-cell-1) → c.loop-cell.ahead < rows c
 goes_down c = omega (arith, c.if-m-ahead.false)
 
 -- the row ends before the column does: the leg goes on in the next row
-goes_on : (c : goal.After-struct_known-in-loop-cell-1) → let t = c in t.loop-cell.invariant.0 + 1 < rows t
+goes_on : (c : goal.After-struct_known-in-loop-cell-1) → c.loop-cell.invariant.0 + 1 < rows c
 goes_on c = let (v, i) = c.loop-cell.invariant in next_row i (goes_down c)
 
 pub overflow_sub-cell : goal.overflow_sub-cell
 overflow_sub-cell c =
-    let k = c in
-    let (v, i) = k.loop-cell.invariant in
-    row_fits i (goes_on k)
+    let (v, i) = c.loop-cell.invariant in
+    row_fits i (goes_on c)
 
 pub loop-cell-preserved : goal.loop-cell-preserved
 loop-cell-preserved c =
-    let k = c in
-    let (v, i) = k.loop-cell.invariant in
-    (v + 1, cell_passed i k.if-cells-cell-eq1.false (goes_down k))
-
--- where the leg was measured, of a column's start; its columns, its rows and its last cell; and how many columns it has come there
-abbrev measured_2 : goal.After-struct_known-then-ahead-m-1 → goal.After-struct_known-then-ahead-m-1
-measured_2 k = k
+    let (v, i) = c.loop-cell.invariant in
+    (v + 1, cell_passed i c.if-cells-cell-eq1.false (goes_down c))
 
 abbrev rows_2 : goal.After-struct_known-then-ahead-m-1 → ℕ
-rows_2 k = (measured_2 k).distance-m.result
+rows_2 k = k.distance-m.result
 
 -- it is at a corner only where the row ends with the column
-met : (c : goal.After-struct_known-then-ahead-m-1) → let t = c in t.loop-cell.ahead ≡ rows_2 t
+met : (c : goal.After-struct_known-then-ahead-m-1) → c.loop-cell.ahead ≡ rows_2 c
 met c = omega (arith, c.if-ahead-m.true)
 
--- the leg goes on behind a corner: where the walk is, its cell is free, its row and column end together, and not at the leg's end
-abbrev there : goal.After-struct_known-then-ahead-m-1 → goal.After-struct_known-then-ahead-m-1
-there c = c
-
--- the call's start, where the leg has been measured
-abbrev begun_4 : goal.After-struct_known-then-ahead-m-1 → goal.After-struct_known-then-ahead-m-1
-begun_4 c = c
-
 free : (c : goal.After-struct_known-then-ahead-m-1) →
-    let t = there c in
-    get_or (begun_4 (measured_2 t)).args.cells.now t.loop-cell.cell 0 ≡ 1 → ⊥
+    get_or c.args.cells.now c.loop-cell.cell 0 ≡ 1 → ⊥
 free c = c.if-cells-cell-eq1.false
 
 abbrev columns : goal.After-struct_known-then-ahead-m-1 → ℕ
-columns k = (measured_2 k).distance-n.result
+columns k = k.distance-n.result
 
 abbrev asked_4 : goal.After-struct_known-then-ahead-m-1 → Board
-asked_4 c = let a = (begun_4 c).args in board a.cells.now a.width a.height
+asked_4 c = let a = c.args in board a.cells.now a.width a.height
 
 abbrev column : goal.After-struct_known-then-ahead-m-1 → ℕ
 column k =
-    let a = (begun_4 (measured_2 k)).args in
-    come (asked_4 (measured_2 k)) a.ax a.ay a.bx a.by k.columns.cell
+    let a = k.args in
+    come (asked_4 k) a.ax a.ay a.bx a.by k.columns.cell
 
 abbrev end : goal.After-struct_known-then-ahead-m-1 → ℕ
 end k = k.cell_beside-last.result
@@ -179,49 +144,35 @@ turns t e f = let (v, i) = t.loop-cell.invariant in corner i e _ t.cell_beside-l
 
 -- ---- what the walk's tests tell
 
-goes : (c : goal.After-struct_known-then-ahead-m-1) → let t = there c in (column t + 1 < columns t) × (t.loop-cell.invariant.0 + 1 < rows_2 t)
-goes c = turns (there c) (met c) c.if-cell-last.false
+goes : (c : goal.After-struct_known-then-ahead-m-1) → (column c + 1 < columns c) × (c.loop-cell.invariant.0 + 1 < rows_2 c)
+goes c = turns c (met c) c.if-cell-last.false
 
 pub overflow_add-beside : goal.overflow_add-beside
 overflow_add-beside c =
-    let k = c in
-    let (v, i) = (there k).loop-cell.invariant in
-    omega (arith, sums_small i (free k) (met k) (goes k) _ _ _ refl refl refl)
-
--- where the leg was measured, of a column's start; its columns, its rows and its last cell; and how many columns it has come there
-abbrev measured_3 : goal.After-struct_known-then-ahead-m-2-1 → goal.After-struct_known-then-ahead-m-2-1
-measured_3 k = k
+    let (v, i) = c.loop-cell.invariant in
+    omega (arith, sums_small i (free c) (met c) (goes c) _ _ _ refl refl refl)
 
 abbrev rows_3 : goal.After-struct_known-then-ahead-m-2-1 → ℕ
-rows_3 k = (measured_3 k).distance-m.result
+rows_3 k = k.distance-m.result
 
 -- it is at a corner only where the row ends with the column
-met_2 : (c : goal.After-struct_known-then-ahead-m-2-1) → let t = c in t.loop-cell.ahead ≡ rows_3 t
+met_2 : (c : goal.After-struct_known-then-ahead-m-2-1) → c.loop-cell.ahead ≡ rows_3 c
 met_2 c = omega (arith, c.if-ahead-m.true)
 
--- the leg goes on behind a corner: where the walk is, its cell is free, its row and column end together, and not at the leg's end
-abbrev there_2 : goal.After-struct_known-then-ahead-m-2-1 → goal.After-struct_known-then-ahead-m-2-1
-there_2 c = c
-
--- the call's start, where the leg has been measured
-abbrev begun_5 : goal.After-struct_known-then-ahead-m-2-1 → goal.After-struct_known-then-ahead-m-2-1
-begun_5 c = c
-
 free_2 : (c : goal.After-struct_known-then-ahead-m-2-1) →
-    let t = there_2 c in
-    get_or (begun_5 (measured_3 t)).args.cells.now t.loop-cell.cell 0 ≡ 1 → ⊥
+    get_or c.args.cells.now c.loop-cell.cell 0 ≡ 1 → ⊥
 free_2 c = c.if-cells-cell-eq1.false
 
 abbrev columns_2 : goal.After-struct_known-then-ahead-m-2-1 → ℕ
-columns_2 k = (measured_3 k).distance-n.result
+columns_2 k = k.distance-n.result
 
 abbrev asked_5 : goal.After-struct_known-then-ahead-m-2-1 → Board
-asked_5 c = let a = (begun_5 c).args in board a.cells.now a.width a.height
+asked_5 c = let a = c.args in board a.cells.now a.width a.height
 
 abbrev column_2 : goal.After-struct_known-then-ahead-m-2-1 → ℕ
 column_2 k =
-    let a = (begun_5 (measured_3 k)).args in
-    come (asked_5 (measured_3 k)) a.ax a.ay a.bx a.by k.columns.cell
+    let a = k.args in
+    come (asked_5 k) a.ax a.ay a.bx a.by k.columns.cell
 
 abbrev end_2 : goal.After-struct_known-then-ahead-m-2-1 → ℕ
 end_2 k = k.cell_beside-last.result
@@ -233,47 +184,30 @@ turns_2 t e f = let (v, i) = t.loop-cell.invariant in corner i e _ t.cell_beside
 
 -- ---- what the walk's tests tell
 
-goes_2 : (c : goal.After-struct_known-then-ahead-m-2-1) → let t = there_2 c in (column_2 t + 1 < columns_2 t) × (t.loop-cell.invariant.0 + 1 < rows_3 t)
-goes_2 c = turns_2 (there_2 c) (met_2 c) c.if-cell-last.false
+goes_2 : (c : goal.After-struct_known-then-ahead-m-2-1) → (column_2 c + 1 < columns_2 c) × (c.loop-cell.invariant.0 + 1 < rows_3 c)
+goes_2 c = turns_2 c (met_2 c) c.if-cell-last.false
 
 pub overflow_sub-beside : goal.overflow_sub-beside
 overflow_sub-beside c =
-    let k = c in
-    let (v, i) = (there_2 k).loop-cell.invariant in
-    (sums_fit i (free_2 k) (met_2 k) (goes_2 k) _ _ _ refl refl refl).0
-
--- the leg goes on behind a corner: where the walk is, its cell is free, its row and column end together, and not at the leg's end
-abbrev there_3 : goal.After-struct_known-then-ahead-m-3-1 → goal.After-struct_known-then-ahead-m-3-1
-there_3 c = c
+    let (v, i) = c.loop-cell.invariant in
+    (sums_fit i (free_2 c) (met_2 c) (goes_2 c) _ _ _ refl refl refl).0
 
 pub overflow_add-below : goal.overflow_add-below
-overflow_add-below c = let (v, i) = (there_3 c).loop-cell.invariant in omega (arith, row_small i)
-
--- the leg goes on behind a corner: where the walk is, its cell is free, its row and column end together, and not at the leg's end
-abbrev there_4 : goal.After-struct_known-then-ahead-m-4-1 → goal.After-struct_known-then-ahead-m-4-1
-there_4 c = c
-
--- where the leg was measured, of a column's start; its columns, its rows and its last cell; and how many columns it has come there
-abbrev measured_4 : goal.After-struct_known-then-ahead-m-4-1 → goal.After-struct_known-then-ahead-m-4-1
-measured_4 k = k
+overflow_add-below c = let (v, i) = c.loop-cell.invariant in omega (arith, row_small i)
 
 abbrev columns_3 : goal.After-struct_known-then-ahead-m-4-1 → ℕ
-columns_3 k = (measured_4 k).distance-n.result
+columns_3 k = k.distance-n.result
 
 abbrev rows_4 : goal.After-struct_known-then-ahead-m-4-1 → ℕ
-rows_4 k = (measured_4 k).distance-m.result
-
--- the call's start, where the leg has been measured
-abbrev begun_6 : goal.After-struct_known-then-ahead-m-4-1 → goal.After-struct_known-then-ahead-m-4-1
-begun_6 c = c
+rows_4 k = k.distance-m.result
 
 abbrev asked_6 : goal.After-struct_known-then-ahead-m-4-1 → Board
-asked_6 c = let a = (begun_6 c).args in board a.cells.now a.width a.height
+asked_6 c = let a = c.args in board a.cells.now a.width a.height
 
 abbrev column_3 : goal.After-struct_known-then-ahead-m-4-1 → ℕ
 column_3 k =
-    let a = (begun_6 (measured_4 k)).args in
-    come (asked_6 (measured_4 k)) a.ax a.ay a.bx a.by k.columns.cell
+    let a = k.args in
+    come (asked_6 k) a.ax a.ay a.bx a.by k.columns.cell
 
 abbrev end_3 : goal.After-struct_known-then-ahead-m-4-1 → ℕ
 end_3 k = k.cell_beside-last.result
@@ -286,52 +220,38 @@ turns_3 t e f = let (v, i) = t.loop-cell.invariant in corner i e _ t.cell_beside
 -- ---- what the walk's tests tell
 
 -- it is at a corner only where the row ends with the column
-met_3 : (c : goal.After-struct_known-then-ahead-m-4-1) → let t = c in t.loop-cell.ahead ≡ rows_4 t
+met_3 : (c : goal.After-struct_known-then-ahead-m-4-1) → c.loop-cell.ahead ≡ rows_4 c
 met_3 c = omega (arith, c.if-ahead-m.true)
 
-goes_3 : (c : goal.After-struct_known-then-ahead-m-4-1) → let t = there_4 c in (column_3 t + 1 < columns_3 t) × (t.loop-cell.invariant.0 + 1 < rows_4 t)
-goes_3 c = turns_3 (there_4 c) (met_3 c) c.if-cell-last.false
+goes_3 : (c : goal.After-struct_known-then-ahead-m-4-1) → (column_3 c + 1 < columns_3 c) × (c.loop-cell.invariant.0 + 1 < rows_4 c)
+goes_3 c = turns_3 c (met_3 c) c.if-cell-last.false
 
 pub overflow_sub-below : goal.overflow_sub-below
 overflow_sub-below c =
-    let k = c in
-    let (v, i) = (there_4 k).loop-cell.invariant in
-    row_fits i (goes_3 k).1
-
--- where the leg was measured, of a column's start; its columns, its rows and its last cell; and how many columns it has come there
-abbrev measured_5 : goal.After-struct_known-then-ahead-m-5-1 → goal.After-struct_known-then-ahead-m-5-1
-measured_5 k = k
+    let (v, i) = c.loop-cell.invariant in
+    row_fits i (goes_3 c).1
 
 abbrev rows_5 : goal.After-struct_known-then-ahead-m-5-1 → ℕ
-rows_5 k = (measured_5 k).distance-m.result
+rows_5 k = k.distance-m.result
 
 -- it is at a corner only where the row ends with the column
-met_4 : (c : goal.After-struct_known-then-ahead-m-5-1) → let t = c in t.loop-cell.ahead ≡ rows_5 t
+met_4 : (c : goal.After-struct_known-then-ahead-m-5-1) → c.loop-cell.ahead ≡ rows_5 c
 met_4 c = omega (arith, c.if-ahead-m.true)
 
--- the leg goes on behind a corner: where the walk is, its cell is free, its row and column end together, and not at the leg's end
-abbrev there_5 : goal.After-struct_known-then-ahead-m-5-1 → goal.After-struct_known-then-ahead-m-5-1
-there_5 c = c
-
--- the call's start, where the leg has been measured
-abbrev begun_7 : goal.After-struct_known-then-ahead-m-5-1 → goal.After-struct_known-then-ahead-m-5-1
-begun_7 c = c
-
 free_3 : (c : goal.After-struct_known-then-ahead-m-5-1) →
-    let t = there_5 c in
-    get_or (begun_7 (measured_5 t)).args.cells.now t.loop-cell.cell 0 ≡ 1 → ⊥
+    get_or c.args.cells.now c.loop-cell.cell 0 ≡ 1 → ⊥
 free_3 c = c.if-cells-cell-eq1.false
 
 abbrev columns_4 : goal.After-struct_known-then-ahead-m-5-1 → ℕ
-columns_4 k = (measured_5 k).distance-n.result
+columns_4 k = k.distance-n.result
 
 abbrev asked_7 : goal.After-struct_known-then-ahead-m-5-1 → Board
-asked_7 c = let a = (begun_7 c).args in board a.cells.now a.width a.height
+asked_7 c = let a = c.args in board a.cells.now a.width a.height
 
 abbrev column_4 : goal.After-struct_known-then-ahead-m-5-1 → ℕ
 column_4 k =
-    let a = (begun_7 (measured_5 k)).args in
-    come (asked_7 (measured_5 k)) a.ax a.ay a.bx a.by k.columns.cell
+    let a = k.args in
+    come (asked_7 k) a.ax a.ay a.bx a.by k.columns.cell
 
 abbrev end_4 : goal.After-struct_known-then-ahead-m-5-1 → ℕ
 end_4 k = k.cell_beside-last.result
@@ -343,49 +263,35 @@ turns_4 t e f = let (v, i) = t.loop-cell.invariant in corner i e _ t.cell_beside
 
 -- ---- what the walk's tests tell
 
-goes_4 : (c : goal.After-struct_known-then-ahead-m-5-1) → let t = there_5 c in (column_4 t + 1 < columns_4 t) × (t.loop-cell.invariant.0 + 1 < rows_5 t)
-goes_4 c = turns_4 (there_5 c) (met_4 c) c.if-cell-last.false
+goes_4 : (c : goal.After-struct_known-then-ahead-m-5-1) → (column_4 c + 1 < columns_4 c) × (c.loop-cell.invariant.0 + 1 < rows_5 c)
+goes_4 c = turns_4 c (met_4 c) c.if-cell-last.false
 
 pub overflow_add-next : goal.overflow_add-next
 overflow_add-next c =
-    let k = c in
-    let (v, i) = (there_5 k).loop-cell.invariant in
-    omega (arith, sums_small i (free_3 k) (met_4 k) (goes_4 k) _ _ _ refl refl refl)
-
--- where the leg was measured, of a column's start; its columns, its rows and its last cell; and how many columns it has come there
-abbrev measured_6 : goal.After-struct_known-then-ahead-m-6-1 → goal.After-struct_known-then-ahead-m-6-1
-measured_6 k = k
+    let (v, i) = c.loop-cell.invariant in
+    omega (arith, sums_small i (free_3 c) (met_4 c) (goes_4 c) _ _ _ refl refl refl)
 
 abbrev rows_6 : goal.After-struct_known-then-ahead-m-6-1 → ℕ
-rows_6 k = (measured_6 k).distance-m.result
+rows_6 k = k.distance-m.result
 
 -- it is at a corner only where the row ends with the column
-met_5 : (c : goal.After-struct_known-then-ahead-m-6-1) → let t = c in t.loop-cell.ahead ≡ rows_6 t
+met_5 : (c : goal.After-struct_known-then-ahead-m-6-1) → c.loop-cell.ahead ≡ rows_6 c
 met_5 c = omega (arith, c.if-ahead-m.true)
 
--- the leg goes on behind a corner: where the walk is, its cell is free, its row and column end together, and not at the leg's end
-abbrev there_6 : goal.After-struct_known-then-ahead-m-6-1 → goal.After-struct_known-then-ahead-m-6-1
-there_6 c = c
-
--- the call's start, where the leg has been measured
-abbrev begun_8 : goal.After-struct_known-then-ahead-m-6-1 → goal.After-struct_known-then-ahead-m-6-1
-begun_8 c = c
-
 free_4 : (c : goal.After-struct_known-then-ahead-m-6-1) →
-    let t = there_6 c in
-    get_or (begun_8 (measured_6 t)).args.cells.now t.loop-cell.cell 0 ≡ 1 → ⊥
+    get_or c.args.cells.now c.loop-cell.cell 0 ≡ 1 → ⊥
 free_4 c = c.if-cells-cell-eq1.false
 
 abbrev columns_5 : goal.After-struct_known-then-ahead-m-6-1 → ℕ
-columns_5 k = (measured_6 k).distance-n.result
+columns_5 k = k.distance-n.result
 
 abbrev asked_8 : goal.After-struct_known-then-ahead-m-6-1 → Board
-asked_8 c = let a = (begun_8 c).args in board a.cells.now a.width a.height
+asked_8 c = let a = c.args in board a.cells.now a.width a.height
 
 abbrev column_5 : goal.After-struct_known-then-ahead-m-6-1 → ℕ
 column_5 k =
-    let a = (begun_8 (measured_6 k)).args in
-    come (asked_8 (measured_6 k)) a.ax a.ay a.bx a.by k.columns.cell
+    let a = k.args in
+    come (asked_8 k) a.ax a.ay a.bx a.by k.columns.cell
 
 abbrev end_5 : goal.After-struct_known-then-ahead-m-6-1 → ℕ
 end_5 k = k.cell_beside-last.result
@@ -397,59 +303,40 @@ turns_5 t e f = let (v, i) = t.loop-cell.invariant in corner i e _ t.cell_beside
 
 -- ---- what the walk's tests tell
 
-goes_5 : (c : goal.After-struct_known-then-ahead-m-6-1) → let t = there_6 c in (column_5 t + 1 < columns_5 t) × (t.loop-cell.invariant.0 + 1 < rows_6 t)
-goes_5 c = turns_5 (there_6 c) (met_5 c) c.if-cell-last.false
-
--- where the three cells round the corner were worked out
-abbrev worked : goal.After-struct_known-then-ahead-m-6-1 → goal.After-struct_known-then-ahead-m-6-1
-worked c = c
+goes_5 : (c : goal.After-struct_known-then-ahead-m-6-1) → (column_5 c + 1 < columns_5 c) × (c.loop-cell.invariant.0 + 1 < rows_6 c)
+goes_5 c = turns_5 c (met_5 c) c.if-cell-last.false
 
 pub overflow_sub-next : goal.overflow_sub-next
 overflow_sub-next c =
-    let k = worked c in
-    let (v, i) = (there_6 k).loop-cell.invariant in
-    (sums_fit i (free_4 k) (met_5 k) (goes_5 k) _ _ _ refl refl refl).1
+    let (v, i) = c.loop-cell.invariant in
+    (sums_fit i (free_4 c) (met_5 c) (goes_5 c) _ _ _ refl refl refl).1
 
 pub is_pinch-requires : goal.is_pinch-requires
 is_pinch-requires c =
-    let k = worked c in
-    let (v, i) = (there_6 k).loop-cell.invariant in
-    cells_read_lem i (free_4 k) (met_5 k) (goes_5 k) _ _ _ refl refl refl
-
--- where the leg was measured, of a column's start; its columns, its rows and its last cell; and how many columns it has come there
-abbrev measured_7 : goal.Then-is_pinch → goal.Then-is_pinch
-measured_7 k = k
+    let (v, i) = c.loop-cell.invariant in
+    cells_read_lem i (free_4 c) (met_5 c) (goes_5 c) _ _ _ refl refl refl
 
 abbrev rows_7 : goal.Then-is_pinch → ℕ
-rows_7 k = (measured_7 k).distance-m.result
+rows_7 k = k.distance-m.result
 
 -- it is at a corner only where the row ends with the column
-met_6 : (c : goal.Then-is_pinch) → let t = c in t.loop-cell.ahead ≡ rows_7 t
+met_6 : (c : goal.Then-is_pinch) → c.loop-cell.ahead ≡ rows_7 c
 met_6 c = omega (arith, c.if-ahead-m.true)
 
--- the leg goes on behind a corner: where the walk is, its cell is free, its row and column end together, and not at the leg's end
-abbrev there_7 : goal.Then-is_pinch → goal.Then-is_pinch
-there_7 c = c
-
--- the call's start, where the leg has been measured
-abbrev begun_9 : goal.Then-is_pinch → goal.Then-is_pinch
-begun_9 c = c
-
 free_5 : (c : goal.Then-is_pinch) →
-    let t = there_7 c in
-    get_or (begun_9 (measured_7 t)).args.cells.now t.loop-cell.cell 0 ≡ 1 → ⊥
+    get_or c.args.cells.now c.loop-cell.cell 0 ≡ 1 → ⊥
 free_5 c = c.if-cells-cell-eq1.false
 
 abbrev columns_6 : goal.Then-is_pinch → ℕ
-columns_6 k = (measured_7 k).distance-n.result
+columns_6 k = k.distance-n.result
 
 abbrev asked_9 : goal.Then-is_pinch → Board
-asked_9 c = let a = (begun_9 c).args in board a.cells.now a.width a.height
+asked_9 c = let a = c.args in board a.cells.now a.width a.height
 
 abbrev column_6 : goal.Then-is_pinch → ℕ
 column_6 k =
-    let a = (begun_9 (measured_7 k)).args in
-    come (asked_9 (measured_7 k)) a.ax a.ay a.bx a.by k.columns.cell
+    let a = k.args in
+    come (asked_9 k) a.ax a.ay a.bx a.by k.columns.cell
 
 abbrev end_6 : goal.Then-is_pinch → ℕ
 end_6 k = k.cell_beside-last.result
@@ -461,40 +348,27 @@ turns_6 t e f = let (v, i) = t.loop-cell.invariant in corner i e _ t.cell_beside
 
 -- ---- what the walk's tests tell
 
-goes_6 : (c : goal.Then-is_pinch) → let t = there_7 c in (column_6 t + 1 < columns_6 t) × (t.loop-cell.invariant.0 + 1 < rows_7 t)
-goes_6 c = turns_6 (there_7 c) (met_6 c) c.if-cell-last.false
-
--- where the three cells round the corner were worked out
-abbrev worked_2 : goal.Then-is_pinch → goal.Then-is_pinch
-worked_2 c = c
+goes_6 : (c : goal.Then-is_pinch) → (column_6 c + 1 < columns_6 c) × (c.loop-cell.invariant.0 + 1 < rows_7 c)
+goes_6 c = turns_6 c (met_6 c) c.if-cell-last.false
 
 pub overflow_add-found-then-is_pinch : goal.overflow_add-found-then-is_pinch
 overflow_add-found-then-is_pinch c =
-    let k = worked_2 c in
-    let (v, i) = (there_7 k).loop-cell.invariant in
-    omega (arith, count_small i.leg, cells_read_lem i (free_5 k) (met_6 k) (goes_6 k) _ _ _ refl refl refl)
-
--- the call's start, where the leg has been measured
-abbrev begun_10 : goal.After-row_known-in-columns-1 → goal.After-row_known-in-columns-1
-begun_10 c = c
+    let (v, i) = c.loop-cell.invariant in
+    omega (arith, count_small i.leg, cells_read_lem i (free_5 c) (met_6 c) (goes_6 c) _ _ _ refl refl refl)
 
 abbrev asked_10 : goal.After-row_known-in-columns-1 → Board
-asked_10 c = let a = (begun_10 c).args in board a.cells.now a.width a.height
-
--- where the leg was measured, of a column's start; its columns, its rows and its last cell; and how many columns it has come there
-abbrev measured_8 : goal.After-row_known-in-columns-1 → goal.After-row_known-in-columns-1
-measured_8 k = k
+asked_10 c = let a = c.args in board a.cells.now a.width a.height
 
 abbrev columns_7 : goal.After-row_known-in-columns-1 → ℕ
-columns_7 k = (measured_8 k).distance-n.result
+columns_7 k = k.distance-n.result
 
 abbrev rows_8 : goal.After-row_known-in-columns-1 → ℕ
-rows_8 k = (measured_8 k).distance-m.result
+rows_8 k = k.distance-m.result
 
 abbrev column_7 : goal.After-row_known-in-columns-1 → ℕ
 column_7 k =
-    let a = (begun_10 (measured_8 k)).args in
-    come (asked_10 (measured_8 k)) a.ax a.ay a.bx a.by k.columns.cell
+    let a = k.args in
+    come (asked_10 k) a.ax a.ay a.bx a.by k.columns.cell
 
 abbrev end_7 : goal.After-row_known-in-columns-1 → ℕ
 end_7 k = k.cell_beside-last.result
@@ -506,13 +380,8 @@ turns_7 t e f = let (v, i) = t.loop-cell.invariant in corner i e _ t.cell_beside
 
 -- ---- what the walk's tests tell
 
--- the leg goes on behind a corner: where the walk is, its cell is free, its row and column end together, and not at the leg's end
-abbrev there_8 : goal.After-row_known-in-columns-1 → goal.After-row_known-in-columns-1
-there_8 c = c
-
 free_6 : (c : goal.After-row_known-in-columns-1) →
-    let t = there_8 c in
-    get_or (begun_10 (measured_8 t)).args.cells.now t.loop-cell.cell 0 ≡ 1 → ⊥
+    get_or c.args.cells.now c.loop-cell.cell 0 ≡ 1 → ⊥
 free_6 c = c.if-cells-cell-eq1.false
 
 -- what holds of two values holds of those that they are
@@ -524,21 +393,18 @@ along P {b = b} {x = x} e f h =
 -- the column is left, inside a row or by a corner
 left_column : (c : goal.After-row_known-in-columns-1) →
     let k = c in
-    let s = measured_8 k in
-    let a = (begun_10 s).args in
+    let s = k in
+    let a = s.args in
     (v : ℕ) × ColumnLeft (asked_10 s) a.ax a.ay a.bx a.by (columns_7 k) (rows_8 k) s.steps_of-step.result (column_7 k) v c.if-ahead-m.ahead c.if-ahead-m.cell
 left_column c =
     let free_6 = c.if-cells-cell-eq1.false in
-    let t = c in
-    let (v, i) = t.loop-cell.invariant in
-    let k = c in
-    let s = measured_8 k in
-    let a = (begun_10 s).args in
-    let P : ℕ → ℕ → Type 0 = λ ahead cell. (v : ℕ) × ColumnLeft (asked_10 s) a.ax a.ay a.bx a.by (columns_7 k) (rows_8 k) s.steps_of-step.result (column_7 k) v ahead cell in
+    let (v, i) = c.loop-cell.invariant in
+    let a = c.args in
+    let P : ℕ → ℕ → Type 0 = λ ahead cell. (v : ℕ) × ColumnLeft (asked_10 c) a.ax a.ay a.bx a.by (columns_7 c) (rows_8 c) c.steps_of-step.result (column_7 c) v ahead cell in
     elim c.if-ahead-m.branch [
       | then-ahead-m+else-cell-last+else-is_pinch w ↦
           let e = w.if-ahead-m.true in
-          let open-corner = left_corner i free_6 e (turns_7 t e w.if-cell-last.false) _ _ _ refl refl refl w.is_pinch.ensures w.if-is_pinch.false in
+          let open-corner = left_corner i free_6 e (turns_7 c e w.if-cell-last.false) _ _ _ refl refl refl w.is_pinch.ensures w.if-is_pinch.false in
           along P w.ahead-is w.cell-is (v + 1, open-corner)
       | else-ahead-m w ↦ along P w.ahead-is w.cell-is (v, left_inside i free_6 (omega (arith, c.if-m-ahead.true, w.if-ahead-m.false)))
     ]
@@ -546,27 +412,19 @@ left_column c =
 pub overflow_add-cell-in-columns : goal.overflow_add-cell-in-columns
 overflow_add-cell-in-columns c = let (v, i) = left_column c in omega (arith, column_small i)
 
--- the call's start, where the leg has been measured
-abbrev begun_11 : goal.After-struct_known-in-columns-2-1 → goal.After-struct_known-in-columns-2-1
-begun_11 c = c
-
 abbrev asked_11 : goal.After-struct_known-in-columns-2-1 → Board
-asked_11 c = let a = (begun_11 c).args in board a.cells.now a.width a.height
-
--- where the leg was measured, of a column's start; its columns, its rows and its last cell; and how many columns it has come there
-abbrev measured_9 : goal.After-struct_known-in-columns-2-1 → goal.After-struct_known-in-columns-2-1
-measured_9 k = k
+asked_11 c = let a = c.args in board a.cells.now a.width a.height
 
 abbrev columns_8 : goal.After-struct_known-in-columns-2-1 → ℕ
-columns_8 k = (measured_9 k).distance-n.result
+columns_8 k = k.distance-n.result
 
 abbrev rows_9 : goal.After-struct_known-in-columns-2-1 → ℕ
-rows_9 k = (measured_9 k).distance-m.result
+rows_9 k = k.distance-m.result
 
 abbrev column_8 : goal.After-struct_known-in-columns-2-1 → ℕ
 column_8 k =
-    let a = (begun_11 (measured_9 k)).args in
-    come (asked_11 (measured_9 k)) a.ax a.ay a.bx a.by k.columns.cell
+    let a = k.args in
+    come (asked_11 k) a.ax a.ay a.bx a.by k.columns.cell
 
 abbrev end_8 : goal.After-struct_known-in-columns-2-1 → ℕ
 end_8 k = k.cell_beside-last.result
@@ -578,86 +436,67 @@ turns_8 t e f = let (v, i) = t.loop-cell.invariant in corner i e _ t.cell_beside
 
 -- ---- what the walk's tests tell
 
--- the leg goes on behind a corner: where the walk is, its cell is free, its row and column end together, and not at the leg's end
-abbrev there_9 : goal.After-struct_known-in-columns-2-1 → goal.After-struct_known-in-columns-2-1
-there_9 c = c
-
 free_7 : (c : goal.After-struct_known-in-columns-2-1) →
-    let t = there_9 c in
-    get_or (begun_11 (measured_9 t)).args.cells.now t.loop-cell.cell 0 ≡ 1 → ⊥
+    get_or c.args.cells.now c.loop-cell.cell 0 ≡ 1 → ⊥
 free_7 c = c.if-cells-cell-eq1.false
 
 -- the column is left, inside a row or by a corner
 left_column_2 : (c : goal.After-struct_known-in-columns-2-1) →
     let k = c in
-    let s = measured_9 k in
-    let a = (begun_11 s).args in
+    let s = k in
+    let a = s.args in
     (v : ℕ) × ColumnLeft (asked_11 s) a.ax a.ay a.bx a.by (columns_8 k) (rows_9 k) s.steps_of-step.result (column_8 k) v c.if-ahead-m.ahead c.if-ahead-m.cell
 left_column_2 c =
     let free_7 = c.if-cells-cell-eq1.false in
-    let t = c in
-    let (v, i) = t.loop-cell.invariant in
-    let k = c in
-    let s = measured_9 k in
-    let a = (begun_11 s).args in
-    let P : ℕ → ℕ → Type 0 = λ ahead cell. (v : ℕ) × ColumnLeft (asked_11 s) a.ax a.ay a.bx a.by (columns_8 k) (rows_9 k) s.steps_of-step.result (column_8 k) v ahead cell in
+    let (v, i) = c.loop-cell.invariant in
+    let a = c.args in
+    let P : ℕ → ℕ → Type 0 = λ ahead cell. (v : ℕ) × ColumnLeft (asked_11 c) a.ax a.ay a.bx a.by (columns_8 c) (rows_9 c) c.steps_of-step.result (column_8 c) v ahead cell in
     elim c.if-ahead-m.branch [
       | then-ahead-m+else-cell-last+else-is_pinch w ↦
           let e = w.if-ahead-m.true in
-          let open-corner = left_corner i free_7 e (turns_8 t e w.if-cell-last.false) _ _ _ refl refl refl w.is_pinch.ensures w.if-is_pinch.false in
+          let open-corner = left_corner i free_7 e (turns_8 c e w.if-cell-last.false) _ _ _ refl refl refl w.is_pinch.ensures w.if-is_pinch.false in
           along P w.ahead-is w.cell-is (v + 1, open-corner)
       | else-ahead-m w ↦ along P w.ahead-is w.cell-is (v, left_inside i free_7 (omega (arith, c.if-m-ahead.true, w.if-ahead-m.false)))
     ]
 
--- the same place, where the next cell is worked out
-abbrev left : goal.After-struct_known-in-columns-2-1 → goal.After-struct_known-in-columns-2-1
-left c = c
-
 pub overflow_sub-cell-in-columns : goal.overflow_sub-cell-in-columns
-overflow_sub-cell-in-columns c = let (v, i) = left_column_2 (left c) in column_fits i
+overflow_sub-cell-in-columns c = let (v, i) = left_column_2 c in column_fits i
 
 pub columns-smaller : goal.columns-smaller
-columns-smaller c = let (v, i) = left_column_2 (left c) in column_less i
+columns-smaller c = let (v, i) = left_column_2 c in column_less i
 
 pub columns-preserved : goal.columns-preserved
-columns-preserved c = let (v, i) = left_column_2 (left c) in (_, v, column_passed i)
+columns-preserved c = let (v, i) = left_column_2 c in (_, v, column_passed i)
 
 -- ---- that it starts, ends, and stays in its numbers
 
 pub returns-then-cells-cell-eq1 : goal.returns-then-cells-cell-eq1
 returns-then-cells-cell-eq1 c = let (v, i) = c.loop-cell.invariant in record { result_value = walk_stopped i c.if-cells-cell-eq1.true; upper_bound = omega (arith, row_small i) }
 
--- where the leg was measured, of a column's start; its columns, its rows and its last cell; and how many columns it has come there
-abbrev measured_10 : goal.Then-cell-last → goal.Then-cell-last
-measured_10 k = k
-
 abbrev rows_10 : goal.Then-cell-last → ℕ
-rows_10 k = (measured_10 k).distance-m.result
+rows_10 k = k.distance-m.result
 
 -- it is at a corner only where the row ends with the column
-met_7 : (c : goal.Then-cell-last) → let t = c in t.loop-cell.ahead ≡ rows_10 t
+met_7 : (c : goal.Then-cell-last) → c.loop-cell.ahead ≡ rows_10 c
 met_7 c = omega (arith, c.if-ahead-m.true)
 
 abbrev end_9 : goal.Then-cell-last → ℕ
 end_9 k = k.cell_beside-last.result
 
 -- and has come to its end only at the leg's last cell
-ended : (c : goal.Then-cell-last) → let t = c in t.loop-cell.cell ≡ end_9 t
+ended : (c : goal.Then-cell-last) → c.loop-cell.cell ≡ end_9 c
 ended c = c.if-cell-last.true
 
 -- ---- what the walk finds
 
 pub returns-then-cell-last : goal.returns-then-cell-last
 returns-then-cell-last c =
-    let k = c in
-    let t = k in
-    let (v, i) = t.loop-cell.invariant in
-    let clear = walk_ended i k.if-cells-cell-eq1.false (omega (arith, met_7 c)) _ t.cell_beside-last.ensures (ended c) in
+    let (v, i) = c.loop-cell.invariant in
+    let clear = walk_ended i c.if-cells-cell-eq1.false (omega (arith, met_7 c)) _ c.cell_beside-last.ensures (ended c) in
     record { result_value = clear; upper_bound = omega (arith, count_small i.leg) }
 
 pub returns-then-is_pinch : goal.returns-then-is_pinch
 returns-then-is_pinch c =
-    let k = worked_2 c in
-    let (v, i) = (there_7 k).loop-cell.invariant in
-    let stopped = walk_pinched i (free_5 k) (met_6 k) (goes_6 k) _ _ _ refl refl refl (sym c.is_pinch.ensures ∙ c.if-is_pinch.true) in
-    record { result_value = stopped; upper_bound = omega (arith, count_small i.leg, cells_read_lem i (free_5 k) (met_6 k) (goes_6 k) _ _ _ refl refl refl) }
+    let (v, i) = c.loop-cell.invariant in
+    let stopped = walk_pinched i (free_5 c) (met_6 c) (goes_6 c) _ _ _ refl refl refl (sym c.is_pinch.ensures ∙ c.if-is_pinch.true) in
+    record { result_value = stopped; upper_bound = omega (arith, count_small i.leg, cells_read_lem i (free_5 c) (met_6 c) (goes_6 c) _ _ _ refl refl refl) }

@@ -1,14 +1,9 @@
 -- `slants::inner::first_blocked` finds what stops a slanted leg: each need is a law of proofs/inner/ at the place's numbers.
 -- Invariants: no column passed stops the leg, and in this column no cell passed. Measures: the columns left; what the row lacks to the column's end.
-use Prim.Native.Nat.{ℕ, ◌+◌, ◌-◌, ◌<◌}
-use mathlib.Core.Path.{◌≡◌, refl, sym, ◌∙◌}
-use mathlib.Core.Logic.{⊎_elim}
-use native.Mathlib.Omega.{arith}
-use borrow.Author.Rules.{rules}
-use lib.ListN.{get_or}
-use Rattle.board.specs.Board.{Board, board}
-use Rattle.slants.proofs.inner.Places.{come, Slanted, n_small, m_small, count_small, corner_small, start_fits, end_fits}
-use Rattle.slants.proofs.inner.Turns.{AtColumn, AtCell, ColumnLeft, walk_starts, column_entered, come_here, cell_read, row_small, row_fits, walk_stopped, next_row, corner, cell_passed, left_inside, sums_small, sums_fit, cells_read_lem, left_corner, walk_pinched, walk_ended, ahead_fits, column_small, column_fits, column_less, column_passed}
+use Prim.Native.Nat.{ℕ, ◌-◌}
+use Rattle.board.specs.Board.{board}
+use Rattle.slants.proofs.inner.Places.{come}
+use Rattle.slants.proofs.inner.Turns.{AtColumn, AtCell}
 use Rattle.slants.proofs.inner.first_blocked.Given as goal
 
 -- the rows come so far are no local of the code, but some v has what is known of them; the columns are told by the cell

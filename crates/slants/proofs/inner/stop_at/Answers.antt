@@ -1,6 +1,3 @@
-use mathlib.Core.Path.{◌≡◌, ◌∙◌}
-use native.Mathlib.Omega.{arith}
-use borrow.Author.Rules.{rules}
 use borrow.Author.Tests.{lt-ltb, le-ltb, eq-eqb, ne_eqb}
 use Rattle.slants.specs.Walk.{stop_at}
 use Rattle.slants.proofs.inner.stop_at.Goals as goal

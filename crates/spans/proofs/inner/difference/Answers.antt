@@ -6,7 +6,6 @@ use lib.IntN.{ℤ, ◌-ℤ◌}
 use mir.Syntax.{w32}
 use mir.Val.{SFits, to_z, of_z}
 use mir.ValLaws.{to_z-of_z, to_z_pos}
-use borrow.Author.Rules.{rules}
 use Rattle.board.specs.Limits.{largest_side}
 use Rattle.spans.specs.Legs.{step}
 use Rattle.spans.proofs.Legs.{step_small, small_fits}

@@ -1,15 +1,8 @@
 -- `tournament::tree::enter` climbs from the leaf while the vertex is ahead.
-use mathlib.Core.Path.{◌≡◌}
-use mathlib.Core.Bool.{Bool}
-use Prim.Native.Nat.{◌/◌, ◌≤◌, ◌<◌}
-use native.Mathlib.Omega.{arith}
-use lib.ListN.{length, set, length-set}
-use Rattle.laws.proofs.Tests.{answered_no, answered_yes}
-use Rattle.board.specs.Limits.{vertices_fit}
-use Rattle.reach.specs.Turns.{at}
-use Rattle.theta.specs.Order.{Rank, ranked, sooner}
+use Prim.Native.Nat.{◌≤◌}
+use Rattle.theta.specs.Order.{ranked}
 use Rattle.ranks.specs.Ranks.{numbers, seen}
-use Rattle.tournament.proofs.Climbs.{Climbing, climbing_start, climbing_step, climbing_stop, climbing_end}
+use Rattle.tournament.proofs.Climbs.{Climbing}
 use Rattle.tournament.proofs.tree.enter.Given as goal
 
 abbrev pub invariant-loop-i : goal.invariant-loop-i

@@ -1,14 +1,8 @@
 -- `tournament::tree::renew` gives each node on the way to the root the sooner of its two leaders.
-use mathlib.Core.Path.{◌≡◌, refl}
-use mathlib.Core.Logic.{◌≢◌}
-use mathlib.Core.List.{List}
-use Prim.Native.Nat.{ℕ, ◌/◌, ◌^◌, ◌≤◌, ◌<◌}
-use native.Mathlib.Omega.{arith}
-use lib.ListN.{length, set, length-set}
-use Rattle.board.specs.Limits.{vertices_fit}
-use Rattle.reach.specs.Turns.{at}
+use mathlib.Core.Path.{◌≡◌}
+use Prim.Native.Nat.{◌/◌, ◌≤◌}
 use Rattle.ranks.specs.Ranks.{numbers, seen}
-use Rattle.tournament.proofs.Climbs.{Renewing, renewing_start, renewing_seated, renewing_step, renewing_end}
+use Rattle.tournament.proofs.Climbs.{Renewing}
 use Rattle.tournament.proofs.tree.renew.Given as goal
 
 abbrev pub invariant-loop-above : goal.invariant-loop-above

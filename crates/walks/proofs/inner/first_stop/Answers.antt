@@ -1,6 +1,5 @@
 use mathlib.Core.Path.{◌≡◌}
 use mathlib.Core.Bool.{false}
-use borrow.Author.Rules.{rules}
 use Rattle.board.specs.Board.{Board, board}
 use Rattle.edges.specs.Edges.{stop_after}
 use Rattle.walks.proofs.inner.Walked.{stop_level, stop_upright, stop_slanted}
@@ -12,10 +11,8 @@ asked s = board s.args.cells.now s.args.width s.args.height
 
 pub returns-then-ay-by : goal.returns-then-ay-by
 returns-then-ay-by c =
-    let d = c in
-    let s = d in
-    let a = s.args in
-    stop_level (asked s) a.ax a.ay a.bx a.by d.if-ay-by.true c.first_walled-steps.result c.stop_after.result c.first_walled-steps.ensures.result_value c.stop_after.ensures
+    let a = c.args in
+    stop_level (asked c) a.ax a.ay a.bx a.by c.if-ay-by.true c.first_walled-steps.result c.stop_after.result c.first_walled-steps.ensures.result_value c.stop_after.ensures
 
 -- the board that the call is given
 abbrev asked_2 : goal.After-stop_after-then-ax-bx → Board
@@ -23,13 +20,11 @@ asked_2 s = board s.args.cells.now s.args.width s.args.height
 
 pub returns-then-ax-bx : goal.returns-then-ax-bx
 returns-then-ax-bx c =
-    let d = c in
-    let s = d in
-    let a = s.args in
+    let a = c.args in
     let steps = c.first_walled-steps-then-ax-bx.result in
     -- the steps of an upright leg are counted from its first end
     let named : c.stop_after-then-ax-bx.result ≡ stop_after false a.ax a.ay a.by steps = c.stop_after-then-ax-bx.ensures in
-    stop_upright (asked_2 s) a.ax a.ay a.bx a.by d.if-ay-by.false d.if-ax-bx.true steps c.stop_after-then-ax-bx.result c.first_walled-steps-then-ax-bx.ensures.result_value named
+    stop_upright (asked_2 c) a.ax a.ay a.bx a.by c.if-ay-by.false c.if-ax-bx.true steps c.stop_after-then-ax-bx.result c.first_walled-steps-then-ax-bx.ensures.result_value named
 
 -- the board that the call is given
 abbrev asked_3 : goal.After-stop_at → Board
@@ -37,7 +32,5 @@ asked_3 s = board s.args.cells.now s.args.width s.args.height
 
 pub returns : goal.returns
 returns c =
-    let d = c in
-    let s = d in
-    let a = s.args in
-    stop_slanted (asked_3 s) a.ax a.ay a.bx a.by d.if-ay-by.false d.if-ax-bx.false c.first_blocked-number.result c.stop_at.result c.first_blocked-number.ensures.result_value c.stop_at.ensures
+    let a = c.args in
+    stop_slanted (asked_3 c) a.ax a.ay a.bx a.by c.if-ay-by.false c.if-ax-bx.false c.first_blocked-number.result c.stop_at.result c.first_blocked-number.ensures.result_value c.stop_at.ensures

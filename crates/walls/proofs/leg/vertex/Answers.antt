@@ -1,4 +1,3 @@
-use borrow.Author.Rules.{rules}
 use borrow.Author.Tests.{lt-ltb, le-ltb}
 use Rattle.legs.specs.Leg.{vertex_at}
 use Rattle.walls.proofs.leg.vertex.Goals as goal
