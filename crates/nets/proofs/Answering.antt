@@ -1,13 +1,11 @@
 -- What a search hands back for a net gives the net's line of the job. Assumes nothing.
-use Prim.Native.Nat.{ℕ, ◌+◌, ◌*◌, ◌≤◌, ◌<◌}
+use Prim.Native.Nat.{ℕ, ◌+◌, ◌*◌, ◌<◌}
 use mathlib.Core.Path.{◌≡◌, refl, ap, ◌∙◌}
 use mathlib.Core.Logic.{inl, inr, ⊎_elim}
 use mathlib.Core.Bool.{true, false}
-use mathlib.Core.List.{List, [], ◌∷◌}
+use mathlib.Core.List.{List}
 use native.Mathlib.Nat.{mul-le-mul_left}
 use native.Mathlib.Omega.{arith}
-use types.Run.{OneOf, miss}
-use denote.Enum.Declared.{tag_of}
 use lib.ListN.{length, take}
 use borrow.Author.Tests.{eqb-false, lt-leb}
 use Rattle.laws.proofs.Tests.{bool_cases}
@@ -23,7 +21,6 @@ use Rattle.faults.specs.Inner.{Accepted}
 use Rattle.refusals.proofs.Refusing.{listed, not_own}
 use Rattle.job.specs.declared.NetAnswer.{NetAnswer}
 use Rattle.job.specs.declared.NetAnswer.TheVariants as net-read
-use Rattle.job.specs.contracts.NetAnswer.{the_type}
 use Rattle.job.specs.Answers.{handed_net, net_row}
 use Rattle.job.proofs.Above.{BoardGiven, NetGiven, given_net_passes}
 use Rattle.answer.specs.Answers.{Route}
@@ -37,9 +34,9 @@ use Rattle.nets.specs.Inner.{Opened}
 
 -- a net with an index below their number is there
 pub net_there : {job : List ℕ} {index : ℕ} → Accepted job → index < nets job → (r : NetAnswer)
-    → OneOf (1 ∷ 2 ∷ []) (tag_of the_type r) → handed_net r ≡ net_row job index → ⊥
+    → ((n sx sy gx gy : ℕ) → r ≡ net-read.Net n sx sy gx gy → ⊥) → handed_net r ≡ net_row job index → ⊥
 unfolding net_row
-net_there a l (net-read.Net n sx sy gx gy) k e = miss (1 ∷ 2 ∷ []) 0 tt k
+net_there a l (net-read.Net n sx sy gx gy) k e = k n sx sy gx gy refl
 net_there {job} {index} a l (net-read.Refused why) k e =
     let w = listed why in
     let z = ap (λ (x : Handed Net). x.number) (rw (a.passed, lt-leb (nets job) index l, w.row_is) at e) in
@@ -122,9 +119,3 @@ module _ {job cells : List ℕ} {w h n : ℕ} (O : Opened job cells w h n) {inde
           low = λ z. absurd (omega (arith, z, eight));
         })
         (bool_cases (search p).found)
-
--- ---- all lines
-
--- the lines of an accepted job are its nets
-pub nets_sent : {job cells : List ℕ} {w h n : ℕ} → Opened job cells w h n → n ≡ line_count job
-nets_sent O = O.many ∙ rw O.accepted.passed

@@ -12,7 +12,8 @@ use netroute::inner::search_net;
 use replies::inner::{Sent, never, print_answer};
 
 // Routes the net with that index, and prints its line.
-fn print_net(
+fn print_net<R: Print + Eprint>(
+    rt: &R,
     job: &[u8],
     cells: &[u8],
     width: usize,
@@ -37,11 +38,12 @@ fn print_net(
     };
     let mut path = [0 as Vertex; VERTICES];
     let answer = search_net(cells, width, height, sx, sy, gx, gy, &mut path);
-    print_answer(job, index, number as u64, answer, width, &path, buffer)
+    print_answer(rt, job, index, number as u64, answer, width, &path, buffer)
 }
 
 // A line for each net, in order, until one is lost.
-pub fn print_nets(
+pub fn print_nets<R: Print + Eprint>(
+    rt: &R,
     job: &[u8],
     cells: &[u8],
     width: usize,
@@ -55,7 +57,7 @@ pub fn print_nets(
 {
     let mut sent = 0;
     while sent < nets {
-        if !print_net(job, cells, width, height, nets, sent, buffer) {
+        if !print_net(rt, job, cells, width, height, nets, sent, buffer) {
             return Sent {
                 lines: sent,
                 lost: true,

@@ -1,7 +1,7 @@
 -- A refused job, and that no board is larger than the program's buffer. Assumes nothing.
-use Prim.Native.Nat.{ℕ, ◌+◌, ◌*◌, ◌%◌, ◌^◌, ◌≤◌, ◌<◌}
+use Prim.Native.Nat.{ℕ, ◌*◌, ◌%◌, ◌≤◌}
 use mathlib.Core.Path.{◌≡◌, refl, sym, ap, subst, ◌∙◌}
-use mathlib.Core.Bool.{Bool, true, false, not, cond, false≢true}
+use mathlib.Core.Bool.{Bool, true, false, not, false≢true}
 use mathlib.Core.List.{List}
 use native.Mathlib.Omega.{arith}
 use lib.Dec.{ltb, eqb}
@@ -10,7 +10,7 @@ use borrow.Author.Tests.{eqb-false, le-ltb}
 use Rattle.board.specs.Handed.{Verdict, passes, refused, row, and_then, Handed, judged, number_in}
 use Rattle.board.proofs.Verdicts.{Within, row_within, then_within, no_pass}
 use Rattle.board.proofs.Rows.{cells_few}
-use Rattle.records.specs.Records.{records, byte, record_bytes, length_row, in_order, unused_row}
+use Rattle.records.specs.Records.{records, byte, record_bytes, unused_row}
 use Rattle.records.proofs.Stray.{unused_within}
 use Rattle.records.proofs.InOrder.{order_within}
 use Rattle.refusals.specs.declared.JobRefusal.{JobRefusal}

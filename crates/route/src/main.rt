@@ -35,7 +35,7 @@ fn line_room() -> usize
 }
 
 // What the program prints for a job.
-fn serve(job: &[u8]) -> Sent
+fn serve<R: Print + Eprint>(rt: &R, job: &[u8]) -> Sent
     ensures { AllSent job.now result }
 {
     let mut board = [0u8; CELLS];
@@ -47,9 +47,9 @@ fn serve(job: &[u8]) -> Sent
             nets,
         } => {
             let cells = &board[..width * height];
-            print_nets(job, cells, width, height, nets, &mut buffer)
+            print_nets(rt, job, cells, width, height, nets, &mut buffer)
         }
-        BoardAnswer::Refused(why) => print_refusal(job, why, &mut buffer),
+        BoardAnswer::Refused(why) => print_refusal(rt, job, why, &mut buffer),
         BoardAnswer::Short => Sent {
             lines: 0,
             lost: never(),
@@ -57,11 +57,11 @@ fn serve(job: &[u8]) -> Sent
     }
 }
 
-fn main() {
+fn main(rt: HostRuntime) {
     let mut job = [0u8; ROOM];
-    let input = read_job(&mut job);
+    let input = read_job(&rt, &mut job);
     let n = input.bytes;
     if input.ended {
-        serve(&job[..n]);
+        serve(&rt, &job[..n]);
     }
 }

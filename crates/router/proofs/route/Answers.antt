@@ -1,7 +1,6 @@
 use mathlib.Core.Path.{◌≡◌, sym, ap, ◌∙◌}
 use mathlib.Core.Bool.{Bool}
 use native.Mathlib.Omega.{arith}
-use borrow.Author.Rules.{rules}
 use Rattle.board.specs.Board.{Board, board, vertices}
 use Rattle.board.specs.Inner.{Sound}
 use Rattle.board.specs.Handed.{passes, refused, row, verdict, leg_rows}

@@ -1,4 +1,3 @@
-use borrow.Author.Rules.{rules}
 use Rattle.board.specs.Board.{Board, board}
 use Rattle.theta.specs.Search.{State}
 use Rattle.theta.specs.Lent.{state}
@@ -6,10 +5,6 @@ use Rattle.bureau.specs.Answers.{Searching, searching}
 use Rattle.bureau.specs.Inner.{net_for}
 use Rattle.claims.proofs.Claiming.{none_refused, none_passes}
 use Rattle.claims.proofs.inner.judge_none.Goals as goal
-
--- where the search began
-abbrev began : goal.Then-outcome → goal.Then-outcome
-began k = k
 
 abbrev asked : goal.Then-outcome → Board
 asked s = board s.args.cells.now s.args.width s.args.height
@@ -25,13 +20,7 @@ left_by k =
 
 pub returns-then-outcome : goal.returns-then-outcome
 returns-then-outcome c =
-    let k = c in
-    let s = began k in
-    none_refused (asked s) (net_for s.args.net) s.requires.ends_of.start {w = lent s} {after = left_by k} k.find-outcome.ensures c.if-outcome.true
-
--- where the search began
-abbrev began_2 : goal.Else-outcome → goal.Else-outcome
-began_2 k = k
+    none_refused (asked c) (net_for c.args.net) c.requires.ends_of.start {w = lent c} {after = left_by c} c.find-outcome.ensures c.if-outcome.true
 
 abbrev asked_2 : goal.Else-outcome → Board
 asked_2 s = board s.args.cells.now s.args.width s.args.height
@@ -47,6 +36,4 @@ left_by_2 k =
 
 pub returns-else-outcome : goal.returns-else-outcome
 returns-else-outcome c =
-    let k = c in
-    let s = began_2 k in
-    none_passes (asked_2 s) (net_for s.args.net) s.requires.ends_of.start {w = lent_2 s} {after = left_by_2 k} k.find-outcome.ensures c.if-outcome.false
+    none_passes (asked_2 c) (net_for c.args.net) c.requires.ends_of.start {w = lent_2 c} {after = left_by_2 c} c.find-outcome.ensures c.if-outcome.false

@@ -1,18 +1,9 @@
-use mathlib.Core.Path.{◌≡◌, refl}
-use Prim.Native.Nat.{ℕ, ◌-◌, ◌≤◌}
+use mathlib.Core.Path.{refl}
 use native.Mathlib.Omega.{arith}
 use borrow.Author.Rules.{rules}
-use lib.ListN.{length}
 use Rattle.laws.proofs.Tests.{answered_no, answered_yes}
-use Rattle.board.specs.Board.{board}
-use Rattle.board.specs.Handed.{passes}
-use Rattle.records.specs.Records.{in_order}
 use Rattle.records.proofs.InOrder.{none_yet}
-use Rattle.tracks.specs.Tracks.{routes_in}
-use Rattle.bureau.specs.Nets.{net_row}
 use Rattle.bureau.specs.Answers.{Searching, searching, after_nets}
-use Rattle.bureau.specs.Inner.{Room, OnJob}
-use Rattle.bureau.proofs.Answering.{none_judged}
 use Rattle.judge.proofs.Judging.{room_same, ends_for, judged_next, judged_work, judged_stop, judged_done}
 use Rattle.judge.proofs.inner.judge_nets.Goals as goal
 
@@ -22,9 +13,8 @@ loop-index-init c = (omega arith, search rules, search rules, refl, refl, refl, 
 
 pub judge_net-fault-requires : goal.judge_net-fault-requires
 judge_net-fault-requires c =
-    let w = c in
-    let l = w.loop-index in
-    record { room = room_same l.invariant.2 l.invariant.3 l.invariant.4 l.invariant.5 l.invariant.6; ends_of = ends_for l.invariant.1 l.index w.wanted_net-net.ensures (omega (arith, l.invariant.1.many_is)); file_value = l.invariant.1.clean }
+    let l = c.loop-index in
+    record { room = room_same l.invariant.2 l.invariant.3 l.invariant.4 l.invariant.5 l.invariant.6; ends_of = ends_for l.invariant.1 l.index c.wanted_net-net.ensures (omega (arith, l.invariant.1.many_is)); file_value = l.invariant.1.clean }
 
 -- what a net's search leaves in the work slices
 abbrev left_by : goal.Then-not-is_nothing → Searching
@@ -32,12 +22,9 @@ left_by k = searching k.judge_net-fault.new.g k.judge_net-fault.new.parents k.ju
 
 pub returns-then-not-is_nothing : goal.returns-then-not-is_nothing
 returns-then-not-is_nothing c =
-    let n = c in
-    let k = n in
-    let w = k in
-    let l = w.loop-index in
-    judged_stop l.invariant.1 _ l.index {w' = left_by k} w.wanted_net-net.ensures l.invariant.8 l.invariant.7 k.judge_net-fault.ensures (omega (arith, l.invariant.1.many_is))
-    (answered_no n.is_nothing.ensures c.if-not-is_nothing.true-raw)
+    let l = c.loop-index in
+    judged_stop l.invariant.1 _ l.index {w' = left_by c} c.wanted_net-net.ensures l.invariant.8 l.invariant.7 c.judge_net-fault.ensures (omega (arith, l.invariant.1.many_is))
+    (answered_no c.is_nothing.ensures c.if-not-is_nothing.true-raw)
 
 -- what a net's search leaves in the work slices
 abbrev left_by_2 : goal.Else-not-is_nothing → Searching
@@ -45,10 +32,7 @@ left_by_2 k = searching k.judge_net-fault.new.g k.judge_net-fault.new.parents k.
 
 pub loop-index-preserved : goal.loop-index-preserved
 loop-index-preserved c =
-    let n = c in
-    let k = n in
-    let w = k in
-    let l = w.loop-index in (
+    let l = c.loop-index in (
       omega arith,
       l.invariant.1,
       l.invariant.2,
@@ -56,8 +40,8 @@ loop-index-preserved c =
       omega arith,
       omega arith,
       omega arith,
-      judged_next l.invariant.1 _ l.index {w' = left_by_2 k} w.wanted_net-net.ensures l.invariant.8 l.invariant.7 k.judge_net-fault.ensures (answered_yes n.is_nothing.ensures c.if-not-is_nothing.false-raw),
-      judged_work l.invariant.1 _ l.index {w' = left_by_2 k} w.wanted_net-net.ensures l.invariant.8 l.invariant.7 k.judge_net-fault.ensures,
+      judged_next l.invariant.1 _ l.index {w' = left_by_2 c} c.wanted_net-net.ensures l.invariant.8 l.invariant.7 c.judge_net-fault.ensures (answered_yes c.is_nothing.ensures c.if-not-is_nothing.false-raw),
+      judged_work l.invariant.1 _ l.index {w' = left_by_2 c} c.wanted_net-net.ensures l.invariant.8 l.invariant.7 c.judge_net-fault.ensures,
     )
 
 pub returns : goal.returns

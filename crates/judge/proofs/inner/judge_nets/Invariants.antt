@@ -1,20 +1,14 @@
 -- `judge::inner::judge_nets` judges net after net. The loop's invariant: those before passed, and the work slices are as their searches left them.
-use mathlib.Core.Path.{◌≡◌, refl}
-use Prim.Native.Nat.{ℕ, ◌-◌, ◌≤◌}
-use native.Mathlib.Omega.{arith}
-use borrow.Author.Rules.{rules}
+use mathlib.Core.Path.{◌≡◌}
+use Prim.Native.Nat.{◌-◌, ◌≤◌}
 use lib.ListN.{length}
-use Rattle.laws.proofs.Tests.{answered_no, answered_yes}
 use Rattle.board.specs.Board.{board}
 use Rattle.board.specs.Handed.{passes}
 use Rattle.records.specs.Records.{in_order}
-use Rattle.records.proofs.InOrder.{none_yet}
 use Rattle.tracks.specs.Tracks.{routes_in}
 use Rattle.bureau.specs.Nets.{net_row}
-use Rattle.bureau.specs.Answers.{Searching, searching, after_nets}
+use Rattle.bureau.specs.Answers.{searching, after_nets}
 use Rattle.bureau.specs.Inner.{Room, OnJob}
-use Rattle.bureau.proofs.Answering.{none_judged}
-use Rattle.judge.proofs.Judging.{room_same, ends_for, judged_next, judged_work, judged_stop, judged_done}
 use Rattle.judge.proofs.inner.judge_nets.Given as goal
 
 abbrev pub invariant-loop-index : goal.invariant-loop-index

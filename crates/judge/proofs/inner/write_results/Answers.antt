@@ -1,16 +1,9 @@
-use mathlib.Core.Path.{◌≡◌, ap}
-use mathlib.Core.List.{◌++◌}
-use Prim.Native.Nat.{ℕ, ◌-◌, ◌≤◌}
+use mathlib.Core.Path.{ap}
 use native.Mathlib.Omega.{arith}
 use borrow.Author.Rules.{rules}
-use lib.ListN.{length, drop}
 use Rattle.kinds.specs.Job.{Net}
-use Rattle.bits.specs.Packed.{entries}
 use Rattle.bits.proofs.Entries.{entries_none, kept_length}
-use Rattle.tracks.specs.Tracks.{routes_in}
-use Rattle.bureau.specs.Nets.{net_units, net_legs}
-use Rattle.bureau.specs.Inner.{AllRight}
-use Rattle.judge.proofs.Judging.{net_small, units_next, counts_next, result_done}
+use Rattle.judge.proofs.Judging.{net_small, units_next, counts_next}
 use Rattle.judge.proofs.inner.write_results.Goals as goal
 
 pub loop-index-init : goal.loop-index-init
@@ -18,19 +11,16 @@ loop-index-init c = (omega arith, search rules, omega arith, omega arith, entrie
 
 pub write_net-requires : goal.write_net-requires
 write_net-requires c =
-    let w = c in
-    let l = w.loop-index in record { file_value = l.invariant.1.clean; points_small = net_small l.index l.invariant.1 (ap (λ (n : Net). n.number) w.wanted_net-net.ensures) (omega (arith, l.invariant.1.many_is)); index_in_bounds = (omega (arith, l.invariant.2, kept_length _ l.index _ l.invariant.4 (omega arith)), omega (arith, l.invariant.3, kept_length _ l.index _ l.invariant.5 (omega arith))) }
+    let l = c.loop-index in record { file_value = l.invariant.1.clean; points_small = net_small l.index l.invariant.1 (ap (λ (n : Net). n.number) c.wanted_net-net.ensures) (omega (arith, l.invariant.1.many_is)); index_in_bounds = (omega (arith, l.invariant.2, kept_length _ l.index _ l.invariant.4 (omega arith)), omega (arith, l.invariant.3, kept_length _ l.index _ l.invariant.5 (omega arith))) }
 
 pub loop-index-preserved : goal.loop-index-preserved
 loop-index-preserved c =
-    let k = c in
-    let w = k in
-    let l = w.loop-index in
-    let number = ap (λ (n : Net). n.number) w.wanted_net-net.ensures in (
+    let l = c.loop-index in
+    let number = ap (λ (n : Net). n.number) c.wanted_net-net.ensures in (
       omega arith,
       l.invariant.1,
       l.invariant.2,
       l.invariant.3,
-      units_next _ _ l.index _ l.invariant.4 number k.write_net.ensures (omega arith),
-      counts_next _ _ l.index _ l.invariant.5 number k.write_net.ensures (omega arith),
+      units_next _ _ l.index _ l.invariant.4 number c.write_net.ensures (omega arith),
+      counts_next _ _ l.index _ l.invariant.5 number c.write_net.ensures (omega arith),
     )

@@ -1,17 +1,12 @@
 -- `judge::inner::write_results` writes net after net. The loop's invariant: the results so far, and beyond them what the slices held.
-use mathlib.Core.Path.{◌≡◌, ap}
+use mathlib.Core.Path.{◌≡◌}
 use mathlib.Core.List.{◌++◌}
-use Prim.Native.Nat.{ℕ, ◌-◌, ◌≤◌}
-use native.Mathlib.Omega.{arith}
-use borrow.Author.Rules.{rules}
+use Prim.Native.Nat.{◌-◌, ◌≤◌}
 use lib.ListN.{length, drop}
-use Rattle.kinds.specs.Job.{Net}
 use Rattle.bits.specs.Packed.{entries}
-use Rattle.bits.proofs.Entries.{entries_none, kept_length}
 use Rattle.tracks.specs.Tracks.{routes_in}
 use Rattle.bureau.specs.Nets.{net_units, net_legs}
 use Rattle.bureau.specs.Inner.{AllRight}
-use Rattle.judge.proofs.Judging.{net_small, units_next, counts_next, result_done}
 use Rattle.judge.proofs.inner.write_results.Given as goal
 
 abbrev pub invariant-loop-index : goal.invariant-loop-index

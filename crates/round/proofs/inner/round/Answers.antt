@@ -1,4 +1,4 @@
-use mathlib.Core.Path.{◌≡◌, refl, ◌∙◌}
+use mathlib.Core.Path.{refl, ◌∙◌}
 use Prim.Native.Nat.{◌≤◌, ◌<◌}
 use native.Mathlib.Omega.{arith}
 use lib.ListN.{length}
@@ -8,10 +8,9 @@ use Rattle.theta.specs.Search.{State}
 use Rattle.theta.specs.Lent.{state, Rounded}
 use Rattle.glance.specs.Glance.{Glanced}
 use Rattle.offers.specs.Request.{board_of, asked, size_of}
-use Rattle.offers.specs.Offers.{ListedFor}
 use Rattle.problem.proofs.Sizes.{vertices_most}
 use Rattle.round.proofs.inner.Places.{At, at_below}
-use Rattle.round.proofs.inner.Passed.{Passed, passed_none, passed_all, left_sight, passed_before, passed_more, still_taken, few_tests, same_sizes}
+use Rattle.round.proofs.inner.Passed.{passed_none, passed_all, left_sight, passed_before, passed_more, still_taken, few_tests}
 use Rattle.round.proofs.inner.round.Goals as goal
 
 -- what the slices held when the round began
@@ -26,30 +25,23 @@ glanced c = c.sighted-left.ensures
 pub loop-left-init : goal.loop-left-init
 loop-left-init c = (passed_none (began c) (glanced c), c.requires.listed_for, refl, refl)
 
-abbrev start : goal.After-look-arg-in-loop-left-5-1 → goal.After-look-arg-in-loop-left-5-1
-start l = l
-
 few : (s : goal.After-look-arg-in-loop-left-5-1) → size_of s.args.request ≤ most_vertices
 few s = vertices_most s.args.request.width s.args.request.height s.requires.taken.asked_for.sound.narrow s.requires.taken.asked_for.sound.low
 
--- the place's bit has been taken off: where its turn began
-abbrev turn : goal.After-look-arg-in-loop-left-5-1 → goal.After-look-arg-in-loop-left-5-1
-turn d = d
-
 abbrev board-there : goal.After-look-arg-in-loop-left-5-1 → Board
-board-there d = let a = (start (turn d)).args in board_of a.cells.now a.request
+board-there d = let a = d.args in board_of a.cells.now a.request
 
 -- the vertex that is looked at is at that place
 spot : (d : goal.After-look-arg-in-loop-left-5-1)
-    → At (board-there d) (start (turn d)).args.u d.first_place.result d.spot_at-w.result.number
+    → At (board-there d) d.args.u d.first_place.result d.spot_at-w.result.number
 spot d =
     let e = d.spot_at-w.ensures in
     record {
-      sight = left_sight (start (turn d)).requires.taken (turn d).loop-left.invariant.0 d.first_place.ensures;
+      sight = left_sight d.requires.taken d.loop-left.invariant.0 d.first_place.ensures;
       number_is = rw (← e.0, ← e.1) e.2;
     }
 
-on_board : (d : goal.After-look-arg-in-loop-left-5-1) → d.spot_at-w.result.number < size_of (start (turn d)).args.request
+on_board : (d : goal.After-look-arg-in-loop-left-5-1) → d.spot_at-w.result.number < size_of d.args.request
 on_board d = at_below (spot d)
 
 -- what the slices held when the round began
@@ -58,22 +50,21 @@ began_2 s = let a = s.args in state a.g.now a.parents.now a.marks.now a.legs.now
 
 -- all vertices before it have been passed
 reached : (d : goal.After-look-arg-in-loop-left-5-1) →
-    let l = (turn d).loop-left in
-    let a = (start (turn d)).args in
-    Rounded (asked a.cells.now a.request) a.u.number d.spot_at-w.result.number (began_2 (start (turn d)))
+    let l = d.loop-left in
+    let a = d.args in
+    Rounded (asked a.cells.now a.request) a.u.number d.spot_at-w.result.number (began_2 d)
     (state l.g l.parents l.marks l.legs 0 l.t)
-reached d = passed_before (start (turn d)).requires.taken (turn d).loop-left.invariant.0 d.first_place.ensures (spot d)
+reached d = passed_before d.requires.taken d.loop-left.invariant.0 d.first_place.ensures (spot d)
 
 -- ---- the turn
 
 pub look-t-requires : goal.look-t-requires
 look-t-requires c =
-    let s = start (turn c) in
     let A = spot c in
     let e = c.spot_at-w.ensures in
-    let l : c.spot_at-w.result.number ≤ size_of s.args.request = omega (arith, on_board c) in
+    let l : c.spot_at-w.result.number ≤ size_of c.args.request = omega (arith, on_board c) in
     record {
-      taken = still_taken s.requires.taken (reached c) l;
+      taken = still_taken c.requires.taken (reached c) l;
       beside = record {
         placed = record { on = rw (e.0, e.1) A.sight.on; numbered = e.2 };
         left = omega (arith, e.0, A.sight.column_in);
@@ -82,10 +73,10 @@ look-t-requires c =
         below = omega (arith, e.1, A.sight.row_in);
         seen = rw (e.0, e.1) A.sight.seen;
       };
-      tests_bound = omega (arith, few_tests s.requires.taken (reached c) l, s.requires.tests_bound, on_board c, few s);
-      listed_for = (turn c).loop-left.invariant.1;
-      known = s.requires.known;
-      guarded = s.requires.guarded;
+      tests_bound = omega (arith, few_tests c.requires.taken (reached c) l, c.requires.tests_bound, on_board c, few c);
+      listed_for = c.loop-left.invariant.1;
+      known = c.requires.known;
+      guarded = c.requires.guarded;
     }
 
 abbrev board-there_2 : goal.After-slice_known-in-loop-left-6-1 → Board

@@ -1,18 +1,9 @@
 -- `round::inner::round` goes over the places round the taken vertex that it sees; what is not near it is passed over.
-use mathlib.Core.Path.{◌≡◌, refl, ◌∙◌}
-use Prim.Native.Nat.{◌≤◌, ◌<◌}
-use native.Mathlib.Omega.{arith}
+use mathlib.Core.Path.{◌≡◌}
 use lib.ListN.{length}
-use Rattle.board.specs.Limits.{most_vertices}
-use Rattle.board.specs.Board.{Board}
-use Rattle.theta.specs.Search.{State}
-use Rattle.theta.specs.Lent.{state, Rounded}
-use Rattle.glance.specs.Glance.{Glanced}
-use Rattle.offers.specs.Request.{board_of, asked, size_of}
+use Rattle.theta.specs.Lent.{state}
 use Rattle.offers.specs.Offers.{ListedFor}
-use Rattle.problem.proofs.Sizes.{vertices_most}
-use Rattle.round.proofs.inner.Places.{At, at_below}
-use Rattle.round.proofs.inner.Passed.{Passed, passed_none, passed_all, left_sight, passed_before, passed_more, still_taken, few_tests, same_sizes}
+use Rattle.round.proofs.inner.Passed.{Passed}
 use Rattle.round.proofs.inner.round.Given as goal
 
 abbrev pub invariant-loop-left : goal.invariant-loop-left

@@ -1,16 +1,13 @@
 use mathlib.Core.Path.{refl}
 use mathlib.Core.Bool.{true}
-use native.Mathlib.Omega.{arith}
-use borrow.Author.Rules.{rules}
 use borrow.Author.Tests.{not-true, not-false}
 use Rattle.board.specs.Board.{Board, board}
-use Rattle.board.proofs.Numbers.{number_below}
 use Rattle.theta.specs.Search as theta
 use Rattle.theta.specs.Lent.{state, Searched}
 use Rattle.theta.specs.Demands.{Work}
 use Rattle.problem.specs.Problem.{problem}
 use Rattle.problem.proofs.Theorems.{board_work, found_traced, found_path, found_units, found_legs, found_exact}
-use Rattle.running.proofs.Ran.{as_found, g_room, legs_room, ran_none, ran_path}
+use Rattle.running.proofs.Ran.{as_found, ran_none, ran_path}
 use Rattle.running.proofs.inner.search_route.Goals as goal
 
 -- what the slices hold before and after
@@ -51,7 +48,7 @@ abbrev wanted_2 : goal.After-tell_path-arg-1 → theta.Problem
 wanted_2 s = problem (asked_2 s) s.args.sx s.args.sy s.args.gx s.args.gy
 
 -- a path has been found
-found : (e : goal.After-tell_path-arg-1) → let k = e in Searched (wanted_2 k) (lent_2 k) (left_2 k) true
+found : (e : goal.After-tell_path-arg-1) → Searched (wanted_2 e) (lent_2 e) (left_2 e) true
 found e =
     as_found {p = wanted_2 e} {before = lent_2 e} {after = left_2 e} (not-false e.find-outcome.result.found e.if-not-outcome.false) e.find-outcome.ensures
 
@@ -79,7 +76,7 @@ work_2 : (c : goal.After-slice_known-12-1) → Work (wanted_3 c) (theta.search (
 work_2 c = board_work (asked_3 c) c.args.sx c.args.sy c.args.gx c.args.gy c.requires.start
 
 -- a path has been found
-found_2 : (e : goal.After-slice_known-12-1) → let k = e in Searched (wanted_3 k) (lent_3 k) (left_3 k) true
+found_2 : (e : goal.After-slice_known-12-1) → Searched (wanted_3 e) (lent_3 e) (left_3 e) true
 found_2 e =
     as_found {p = wanted_3 e} {before = lent_3 e} {after = left_3 e} (not-false e.find-outcome.result.found e.if-not-outcome.false) e.find-outcome.ensures
 

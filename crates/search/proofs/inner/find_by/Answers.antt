@@ -1,10 +1,5 @@
-use mathlib.Core.Path.{◌∙◌}
-use Prim.Native.Nat.{◌+◌, ◌*◌, ◌≤◌, ◌<◌}
-use native.Mathlib.Omega.{arith}
-use borrow.Author.Rules.{rules}
-use lib.ListN.{length}
-use Rattle.board.specs.Limits.{largest_side, most_vertices}
-use Rattle.board.proofs.Numbers.{number_below}
+use Prim.Native.Nat.{◌+◌, ◌*◌}
+use Rattle.board.specs.Limits.{largest_side}
 use Rattle.clearing.specs.Clearing.{Cleared}
 use Rattle.open.specs.Groups.{per_row}
 use Rattle.open.proofs.Grouping.{nodes_fit}
@@ -13,7 +8,6 @@ use Rattle.open.proofs.Listing.{blank_made}
 use Rattle.theta.specs.Search.{State}
 use Rattle.theta.specs.Lent.{state, Begun}
 use Rattle.offers.specs.Request.{size_of}
-use Rattle.problem.proofs.Sizes.{vertices_most}
 use Rattle.turns.proofs.Finding.{start_sited, cleared_listed, cleared_lower, cleared_begun, begun_begins, found_whole}
 use Rattle.search.proofs.inner.find_by.Goals as goal
 
@@ -52,8 +46,7 @@ opened o = state o.open_vertex.new.g (emptied_2 o).parent o.open_vertex.new.mark
 is_cleared_2 : (b : goal.After-keys-3-1) → Cleared (size_of b.args.request) b.number_of-start.result (lent_2 b) (emptied_2 b)
 is_cleared_2 b = b.begin.ensures
 
-begun : (o : goal.After-keys-3-1) → let n = o in
-    Begun (size_of n.args.request) n.number_of-start.result (lent_2 n) (opened o)
+begun : (o : goal.After-keys-3-1) → Begun (size_of o.args.request) o.number_of-start.result (lent_2 o) (opened o)
 begun o =
     cleared_begun o.requires.asked o.number_of-start.ensures {before = lent_2 o} {after = emptied_2 o} (is_cleared_2 o) {g = o.open_vertex.new.g} {mark = o.open_vertex.new.marks}
     {legs = o.open_vertex.new.legs} {leads = o.open_vertex.new.leads} {keys = o.open_vertex.new.keys} o.open_vertex.ensures
@@ -77,8 +70,7 @@ opened_2 o = state o.open_vertex.new.g (emptied_3 o).parent o.open_vertex.new.ma
 is_cleared_3 : (b : goal.After-keys-4-1) → Cleared (size_of b.args.request) b.number_of-start.result (lent_3 b) (emptied_3 b)
 is_cleared_3 b = b.begin.ensures
 
-begun_2 : (o : goal.After-keys-4-1) → let n = o in
-    Begun (size_of n.args.request) n.number_of-start.result (lent_3 n) (opened_2 o)
+begun_2 : (o : goal.After-keys-4-1) → Begun (size_of o.args.request) o.number_of-start.result (lent_3 o) (opened_2 o)
 begun_2 o =
     cleared_begun o.requires.asked o.number_of-start.ensures {before = lent_3 o} {after = emptied_3 o} (is_cleared_3 o) {g = o.open_vertex.new.g} {mark = o.open_vertex.new.marks}
     {legs = o.open_vertex.new.legs} {leads = o.open_vertex.new.leads} {keys = o.open_vertex.new.keys} o.open_vertex.ensures

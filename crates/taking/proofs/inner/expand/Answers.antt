@@ -1,13 +1,9 @@
-use mathlib.Core.List.{List}
-use Prim.Native.Nat.{ℕ, ◌≤◌}
+use Prim.Native.Nat.{◌≤◌}
 use native.Mathlib.Omega.{arith}
-use borrow.Author.Rules.{rules}
 use Rattle.board.specs.Limits.{most_vertices, vertices_fit}
-use Rattle.offers.specs.Request.{asked, size_of}
-use Rattle.theta.specs.Search.{Problem, State}
-use Rattle.theta.specs.Lent.{state}
+use Rattle.offers.specs.Request.{size_of}
 use Rattle.problem.proofs.Sizes.{vertices_most}
-use Rattle.taking.proofs.Taking.{taking_on, taking_sited, taking_number, taking_taken, taking_rounded}
+use Rattle.taking.proofs.Taking.{taking_on, taking_sited, taking_number, taking_taken}
 use Rattle.taking.proofs.inner.expand.Goals as goal
 
 few : (s : goal.After-shared_slice_known-3-1) → size_of s.args.request ≤ most_vertices

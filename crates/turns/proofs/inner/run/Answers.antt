@@ -1,19 +1,17 @@
 use mathlib.Core.Path.{◌≡◌, refl, sym, ◌∙◌}
 use mathlib.Core.Logic.{◌≢◌}
 use mathlib.Core.List.{List}
-use Prim.Native.Nat.{ℕ, ◌+◌, ◌-◌, ◌≤◌}
+use Prim.Native.Nat.{ℕ, ◌+◌, ◌≤◌}
 use native.Mathlib.Omega.{arith}
 use lib.ListN.{length}
 use Rattle.board.specs.Limits.{most_vertices}
 use Rattle.board.specs.Board.{number_of}
-use Rattle.board.proofs.Numbers.{number_below}
 use Rattle.tournament.specs.Contest.{no_key}
-use Rattle.open.proofs.Grouping.{root_room}
 use Rattle.theta.specs.Search.{State}
 use Rattle.theta.specs.Lent.{state}
 use Rattle.offers.specs.Request.{size_of}
 use Rattle.problem.proofs.Sizes.{vertices_most}
-use Rattle.turns.proofs.Finding.{Finding, whole_from, finding_start, finding_tests, finding_none, finding_found, finding_room, finding_taking, finding_next}
+use Rattle.turns.proofs.Finding.{finding_start, finding_tests, finding_none, finding_found, finding_room, finding_taking, finding_next}
 use Rattle.turns.proofs.inner.run.Goals as goal
 
 pub turns-init : goal.turns-init
@@ -22,20 +20,17 @@ turns-init c = (finding_start c.requires.asked c.requires.begins c.requires.list
 few : (s : goal.Else-v-goal) → size_of s.args.request ≤ most_vertices
 few s = vertices_most s.args.request.width s.args.request.height s.requires.asked.sound.narrow s.requires.asked.sound.low
 
-abbrev start : goal.Else-v-goal → goal.Else-v-goal
-start l = l
-
 -- a vertex is taken that is not the goal
-not_goal : (k : goal.Else-v-goal) → let q = (start k).args.request in k.first-leader.result.vertex ≢ number_of q.width q.gx q.gy
+not_goal : (k : goal.Else-v-goal) → let q = k.args.request in k.first-leader.result.vertex ≢ number_of q.width q.gx q.gy
 not_goal k e = k.if-v-goal.false (e ∙ sym k.number_of-goal.ensures)
 
 -- fewer are expanded than there are
-more : (k : goal.Else-v-goal) → let l = k in l.turns.expansions + 1 ≤ size_of (start l).args.request
+more : (k : goal.Else-v-goal) → k.turns.expansions + 1 ≤ size_of k.args.request
 more k =
-    omega (arith, finding_room (start k).requires.asked k.turns.invariant.0 k.first-leader.ensures k.if-leader.false (not_goal k))
+    omega (arith, finding_room k.requires.asked k.turns.invariant.0 k.first-leader.ensures k.if-leader.false (not_goal k))
 
 pub overflow_add-expansions : goal.overflow_add-expansions
-overflow_add-expansions c = let s = start c in omega (arith, more c, few s)
+overflow_add-expansions c = omega (arith, more c, few c)
 
 -- a vertex is taken that is not the goal
 not_goal_2 : (k : goal.After-expand-arg-in-turns-5-1) → let q = k.args.request in k.first-leader.result.vertex ≢ number_of q.width q.gx q.gy
@@ -59,7 +54,7 @@ not_goal_3 : (k : goal.After-slice_known-in-turns-6-1) → let q = k.args.reques
 not_goal_3 k e = k.if-v-goal.false (e ∙ sym k.number_of-goal.ensures)
 
 -- fewer are expanded than there are
-more_2 : (k : goal.After-slice_known-in-turns-6-1) → let l = k in l.turns.expansions + 1 ≤ size_of l.args.request
+more_2 : (k : goal.After-slice_known-in-turns-6-1) → k.turns.expansions + 1 ≤ size_of k.args.request
 more_2 k =
     omega (arith, finding_room k.requires.asked k.turns.invariant.0 k.first-leader.ensures k.if-leader.false (not_goal_3 k))
 
