@@ -119,3 +119,9 @@ module _ {job cells : List ℕ} {w h n : ℕ} (O : Opened job cells w h n) {inde
           low = λ z. absurd (omega (arith, z, eight));
         })
         (bool_cases (search p).found)
+
+-- ---- all lines
+
+-- the lines of an accepted job are its nets
+pub nets_sent : {job cells : List ℕ} {w h n : ℕ} → Opened job cells w h n → n ≡ line_count job
+nets_sent O = O.many ∙ rw O.accepted.passed

@@ -1,17 +1,33 @@
 -- What was handed back for a net, and that its line has room. Assumes nothing.
-use Prim.Native.Nat.{ℕ, ◌≤◌}
+use Prim.Native.Nat.{ℕ, ◌≤◌, ◌<◌}
 use mathlib.Core.Path.{◌≡◌, subst}
+use mathlib.Core.Logic.{◌⊎◌, ⊎_elim}
 use mathlib.Core.List.{List}
 use native.Mathlib.Omega.{arith}
 use lib.ListN.{length, take}
 use lib.Seq.{length-take-le}
+use Rattle.board.specs.declared.Refusal.{Refusal}
+use Rattle.board.specs.declared.Refusal.TheVariants.{Side, Count, Byte, First, Second}
 use Rattle.board.specs.Handed.{Handed}
 use Rattle.answer.specs.declared.Answer.{Answer}
+use Rattle.answer.specs.declared.Answer.TheVariants.{Refused}
 use Rattle.answer.specs.Answers.{Route, handed_route}
 use Rattle.lines.specs.Lines.{net_line, none_line}
 use Rattle.lines.proofs.Longest.{Small, net_short, none_short}
 use Rattle.netroute.specs.Limits.{widest, line_room}
 use Rattle.replies.specs.Inner.{Answered}
+
+-- a path or none is no refusal
+pub no_refusal : (why : Refusal) → ((handed_route (Refused why)).number ≡ 0) ⊎ ((handed_route (Refused why)).number ≡ 8) → ⊥
+no_refusal Side = ⊎_elim (λ z. omega arith) (λ z. omega arith)
+no_refusal Count = ⊎_elim (λ z. omega arith) (λ z. omega arith)
+no_refusal (Byte at) = ⊎_elim (λ z. omega arith) (λ z. omega arith)
+no_refusal First = ⊎_elim (λ z. omega arith) (λ z. omega arith)
+no_refusal Second = ⊎_elim (λ z. omega arith) (λ z. omega arith)
+
+-- with 0 and 8 there is no other number
+pub no_other : (n : ℕ) → 0 < n → n < 8 → (n ≡ 0) ⊎ (n ≡ 8) → ⊥
+no_other n a b = ⊎_elim (λ z. omega arith) (λ z. omega arith)
 
 -- of an answer that is known to be one variant
 pub answered_as : {job : List ℕ} {i number w : ℕ} {slice : List ℕ} {a b : Answer}

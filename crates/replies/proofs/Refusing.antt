@@ -11,9 +11,12 @@ use Rattle.lines.specs.declared.Line.{Line}
 use Rattle.lines.specs.Answers.{bytes_of}
 use Rattle.lines.specs.Inner.{Refusing}
 use Rattle.lines.proofs.Refusals.{refusing_bytes}
-use Rattle.replies.specs.Output.{line_at}
+use Rattle.replies.specs.Output.{line_count, line_at}
 
 module _ (job : List ℕ) (why : JobRefusal) (e : job_rows job ≡ refusal_row why) where
+  pub one_line : line_count job ≡ 1
+  one_line = rw (e, (listed why).row_is)
+
   -- as the code makes it, from the number and the places
   pub refusal_bytes : {n p s : ℕ} → n ≡ number_in (refusal_row why) → p ≡ place_in (refusal_row why) → s ≡ second_in (refusal_row why)
       → {r : Line} → Refusing n p s r → (w : ℕ) (path : List ℕ) → bytes_of r w path ≡ line_at job 0
