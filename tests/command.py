@@ -176,7 +176,7 @@ def explained():
 def readme():
     """Every command in README.md's indented blocks but the gate, which runs this test."""
     with open("crates.txt") as file:
-        crates = {row.split(":")[0] for row in file}
+        crates = {row.split()[0].rstrip(":") for row in file}
     with open("README.md") as file:
         lines = [row[4:].split("   #")[0].strip() for row in file if row.startswith("    ")]
     lines = [line for line in lines if line and line[0] != "#" and line.split()[0] not in crates]

@@ -96,7 +96,7 @@ module _ {job cells : List ℕ} {w h n : ℕ} (O : Opened job cells w h n) {inde
           below = counted;
           kind = inl zero;
           path_line = λ _. rw (front, e) (rw f at line_is);
-          none_line_lem = λ z. absurd (omega (arith, z, zero));
+          no_path_line = λ z. absurd (omega (arith, z, zero));
           some = s.wide;
           narrow = s.narrow;
           room = F.room;
@@ -111,7 +111,7 @@ module _ {job cells : List ℕ} {w h n : ℕ} (O : Opened job cells w h n) {inde
           below = counted;
           kind = inr eight;
           path_line = λ z. absurd (omega (arith, z, eight));
-          none_line_lem = λ _. rw e (rw f at line_is);
+          no_path_line = λ _. rw e (rw f at line_is);
           some = s.wide;
           narrow = s.narrow;
           room = F.room;

@@ -9,10 +9,10 @@ use job::NetAnswer;
 use job::inner::net_at;
 use netroute::VERTICES;
 use netroute::inner::search_net;
-use replies::inner::{Sent, never, print_answer};
+use replies::inner::{Sent, print_answer};
 
 // Routes the net with that index, and prints its line.
-fn print_net<R: Print + Eprint>(
+fn print_net<R: Print + Eprint + AllocGlobal>(
     rt: &R,
     job: &[u8],
     cells: &[u8],
@@ -34,7 +34,7 @@ fn print_net<R: Print + Eprint>(
         gy,
     } = net_at(job, index)
     else {
-        return never();
+        unreachable!()
     };
     let mut path = [0 as Vertex; VERTICES];
     let answer = search_net(cells, width, height, sx, sy, gx, gy, &mut path);
@@ -42,7 +42,7 @@ fn print_net<R: Print + Eprint>(
 }
 
 // A line for each net, in order, until one is lost.
-pub fn print_nets<R: Print + Eprint>(
+pub fn print_nets<R: Print + Eprint + AllocGlobal>(
     rt: &R,
     job: &[u8],
     cells: &[u8],

@@ -17,7 +17,7 @@ pub record Answered (job : List ℕ) (i number w : ℕ) (h : Handed Route) (slic
   pub path_line : h.number ≡ 0
       → net_line number h.values.units h.values.expansions h.values.tests w (take h.values.vertices slice)
       ≡ line_at job i
-  pub none_line_lem : h.number ≡ 8 → none_line number h.values.expansions h.values.tests ≡ line_at job i
+  pub no_path_line : h.number ≡ 8 → none_line number h.values.expansions h.values.tests ≡ line_at job i
   pub some : 0 < w
   pub narrow : w ≤ widest
   pub room : h.values.vertices ≤ length slice

@@ -17,22 +17,14 @@ use streams::write_whole;
 use writing::write_line;
 
 // How many lines were sent, and whether the next one was lost.
-#[derive(Drop)]
+#[derive(Clone, Copy)]
 pub struct Sent {
     pub lines: usize,
     pub lost: bool,
 }
 
-// No job leads here: nobody can call this, and nothing can be said of what comes after it.
-pub fn never() -> bool
-    requires { ⊥ }
-    ensures { ⊥ }
-{
-    false
-}
-
 // Hands line `index` of the job, counted from 0, to the system: the bytes are the definition's. Says whether it took them all.
-fn send<R: Print + Eprint>(rt: &R, job: &[u8], index: usize, bytes: &[u8]) -> bool
+fn send<R: Print + Eprint + AllocGlobal>(rt: &R, job: &[u8], index: usize, bytes: &[u8]) -> bool
     requires index_bound { index < line_count job.now }
     requires bytes_value { bytes.now ≡ line_at job.now index }
 {
@@ -40,7 +32,7 @@ fn send<R: Print + Eprint>(rt: &R, job: &[u8], index: usize, bytes: &[u8]) -> bo
 }
 
 // Composes a line in the buffer and sends it.
-fn print<R: Print + Eprint>(
+fn print<R: Print + Eprint + AllocGlobal>(
     rt: &R,
     job: &[u8],
     index: usize,
@@ -55,12 +47,12 @@ fn print<R: Print + Eprint>(
 {
     match write_line(line, width, path, buffer) {
         lines::Answer::Written(n) => send(rt, job, index, &buffer[..n]),
-        lines::Answer::Short => never(),
+        lines::Answer::Short => unreachable!(),
     }
 }
 
 // Prints a refused job's one line, which names no vertex.
-pub fn print_refusal<R: Print + Eprint>(
+pub fn print_refusal<R: Print + Eprint + AllocGlobal>(
     rt: &R,
     job: &[u8],
     why: JobRefusal,
@@ -85,7 +77,7 @@ pub fn print_refusal<R: Print + Eprint>(
 }
 
 // Prints what was found for a net.
-pub fn print_answer<R: Print + Eprint>(
+pub fn print_answer<R: Print + Eprint + AllocGlobal>(
     rt: &R,
     job: &[u8],
     index: usize,
@@ -123,8 +115,8 @@ pub fn print_answer<R: Print + Eprint>(
             };
             print(rt, job, index, line, width, path, buffer)
         }
-        Answer::Refused(_) => never(),
-        Answer::Work => never(),
-        Answer::Short(_) => never(),
+        Answer::Refused(_) => unreachable!(),
+        Answer::Work => unreachable!(),
+        Answer::Short(_) => unreachable!(),
     }
 }

@@ -47,7 +47,7 @@ module _ (job : List ℕ) (lent : Slices) where
         le-ltb (length lent.work.marks) size r.marks,
         le-ltb (length lent.work.legs) size r.legs,
         le-ltb (length lent.units) (nets job) r.units,
-        le-ltb (length lent.leg_counts) (nets job) r.leg_counts_lem,
+        le-ltb (length lent.leg_counts) (nets job) r.leg_counts,
       )
 
   passes_room : room_rows job lent ≡ passes → Roomy job lent
@@ -67,7 +67,7 @@ module _ (job : List ℕ) (lent : Slices) where
         marks = ltb-false (length w.marks) size marks.0;
         legs = ltb-false (length w.legs) size marks.1;
         units = ltb-false (length lent.units) (nets job) units.0;
-        leg_counts_lem = ltb-false (length lent.leg_counts) (nets job) units.1;
+        leg_counts = ltb-false (length lent.leg_counts) (nets job) units.1;
       }
 
 -- ---- rows and what is handed back

@@ -23,7 +23,7 @@ pub record Roomy (job : List ℕ) (lent : Slices) : Type 0 where
   pub marks : vertices (job_board job) ≤ length lent.work.marks
   pub legs : vertices (job_board job) ≤ length lent.work.legs
   pub units : nets job ≤ length lent.units
-  pub leg_counts_lem : nets job ≤ length lent.leg_counts
+  pub leg_counts : nets job ≤ length lent.leg_counts
 
 -- nothing is wrong: no row refuses the job or the file, the slices are long enough, and the file's routes are right
 pub record NothingWrong (job file : List ℕ) (lent : Slices) : Type 0 where

@@ -9,7 +9,7 @@ use faults::LONGEST;
 use job::{BoardAnswer, read_board};
 use netroute::{VERTICES, WIDEST};
 use nets::inner::print_nets;
-use replies::inner::{Sent, never, print_refusal};
+use replies::inner::{Sent, print_refusal};
 use streams::read_job;
 
 // One byte more than the longest job, so that a longer one is known.
@@ -35,7 +35,7 @@ fn line_room() -> usize
 }
 
 // What the program prints for a job.
-fn serve<R: Print + Eprint>(rt: &R, job: &[u8]) -> Sent
+fn serve<R: Print + Eprint + AllocGlobal>(rt: &R, job: &[u8]) -> Sent
     ensures { AllSent job.now result }
 {
     let mut board = [0u8; CELLS];
@@ -50,10 +50,7 @@ fn serve<R: Print + Eprint>(rt: &R, job: &[u8]) -> Sent
             print_nets(rt, job, cells, width, height, nets, &mut buffer)
         }
         BoardAnswer::Refused(why) => print_refusal(rt, job, why, &mut buffer),
-        BoardAnswer::Short => Sent {
-            lines: 0,
-            lost: never(),
-        },
+        BoardAnswer::Short => unreachable!(),
     }
 }
 

@@ -32,9 +32,18 @@ fn is_put_off(error: &io::Error, tries: usize) -> bool
     false
 }
 
-// Says on standard error why a stream failed. Where that fails too, nothing is left to say it on.
-fn tell<R: Eprint>(rt: &R, stream: &str, error: &io::Error) {
-    let _ = eprintln!(rt; "route: {stream}: {error}");
+// Says on standard error why a stream failed, in the system's words: std puts the error's number behind them, which is left out. Where
+// saying it fails too, nothing is left to say it on.
+fn tell<R: Eprint + AllocGlobal>(rt: &R, stream: &str, error: &io::Error) {
+    let Ok(words) = format!(in rt.alloc(); "{error}") else {
+        let _ = eprintln!(rt; "route: {stream}: {error}");
+        return;
+    };
+    let said = words.as_str();
+    let said = said
+        .split_once(" (os error")
+        .map_or(said, |(words, _)| words);
+    let _ = eprintln!(rt; "route: {stream}: {said}");
 }
 
 // One write of the bytes from a place on: how many the system took, or why it took none.
@@ -50,7 +59,7 @@ fn write_some<R: Print>(rt: &R, bytes: &[u8], done: usize) -> io::Result<usize>
 }
 
 // Writes all the bytes, or says on standard error why not.
-pub fn write_whole<R: Print + Eprint>(rt: &R, bytes: &[u8]) -> bool {
+pub fn write_whole<R: Print + Eprint + AllocGlobal>(rt: &R, bytes: &[u8]) -> bool {
     let mut done = 0;
     let mut tries = 0;
     while done < bytes.len() {
@@ -72,7 +81,7 @@ pub fn write_whole<R: Print + Eprint>(rt: &R, bytes: &[u8]) -> bool {
 }
 
 // How many bytes were read, and whether the input has ended.
-#[derive(Drop)]
+#[derive(Clone, Copy)]
 pub struct Input {
     pub bytes: usize,
     pub ended: bool,
@@ -87,7 +96,7 @@ fn read_some<S: Read>(source: &mut S, job: &mut [u8], done: usize) -> io::Result
 }
 
 // Reads to the end of the input, or until the job is full, or says on standard error why not. A closed input has ended.
-pub fn read_job<R: io::Input + Eprint>(rt: &R, job: &mut [u8]) -> Input
+pub fn read_job<R: io::Input + Eprint + AllocGlobal>(rt: &R, job: &mut [u8]) -> Input
     ensures { result.bytes ≤ length job.new }
 {
     let mut source = rt.reader();

@@ -47,7 +47,7 @@ fn nearer(n: u64, guess: u64) -> u64
 
 // A guess at the root of n, the s × 2^40 of a leg beyond the table: begun from two legs of a 16th its length, made better twice.
 fn guess_beyond(s: usize, n: u64, table: &[u32]) -> u64
-    requires squares_le_s { (squares ≤ s) × (s ≤ 2 * (largest_side * largest_side)) × (n < 2 ^ 60) }
+    requires s_bound { (0 < s) × (s ≤ 2 * (largest_side * largest_side)) × (n < 2 ^ 60) }
     requires known { Known s table.now }
     ensures { result < 2 ^ 32 }
 {
@@ -59,7 +59,7 @@ fn guess_beyond(s: usize, n: u64, table: &[u32]) -> u64
 
 // The units of a leg beyond the table. The guess is tested for being the root; where it is not, the root is worked out.
 fn units_beyond(s: usize, table: &[u32]) -> u64
-    requires squares_le_s { (squares ≤ s) × (s ≤ 2 * (largest_side * largest_side)) }
+    requires s_bound { (0 < s) × (s ≤ 2 * (largest_side * largest_side)) }
     requires known { Known s table.now }
     ensures { result ≡ units_of s }
 {

@@ -32,5 +32,5 @@ pub print_refusal-requires-clause-line_room_in_bounds :
     goal.print_refusal-requires-clause-line_room_in_bounds
 print_refusal-requires-clause-line_room_in_bounds g c = omega (arith, line_room_lem)
 
-pub never-requires : goal.never-requires
-never-requires g c = board_fits c.args.job.now (omega arith) c.in-Short.ensures
+pub unreachable-requires : goal.unreachable-requires
+unreachable-requires g c = board_fits c.args.job.now (omega arith) c.in-Short.ensures

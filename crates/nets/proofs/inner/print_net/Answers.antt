@@ -4,8 +4,8 @@ use Rattle.job.proofs.Above.{net_given}
 use Rattle.nets.proofs.Answering.{net_there, net_legs_lem, answered}
 use Rattle.nets.proofs.inner.print_net.Goals as goal
 
-pub never-requires : goal.never-requires
-never-requires g c = net_there c.requires.opened.accepted (omega arith) c.net_at.result c.in_default.not-Net c.net_at.ensures
+pub unreachable-requires : goal.unreachable-requires
+unreachable-requires g c = net_there c.requires.opened.accepted (omega arith) c.net_at.result c.in_default.not-Net c.net_at.ensures
 
 pub search_net-answer-requires-clause-gy_value : goal.search_net-answer-requires-clause-gy_value
 search_net-answer-requires-clause-gy_value g c =

@@ -13,5 +13,5 @@ slice_bounds-send-end-in-Written g c = (line_front c.write_line.ensures c.in-Wri
 pub send-requires-clause-bytes_value : goal.send-requires-clause-bytes_value
 send-requires-clause-bytes_value g c = (line_front c.write_line.ensures c.in-Written.is).line ∙ c.requires.path_value
 
-pub never-requires : goal.never-requires
-never-requires g c = line_has_room c.requires.path_in_bounds c.write_line.ensures c.in-Short.is
+pub unreachable-requires : goal.unreachable-requires
+unreachable-requires g c = line_has_room c.requires.path_in_bounds c.write_line.ensures c.in-Short.is
