@@ -31,7 +31,8 @@
    Threads: no call keeps anything between two calls, so any number may run at once, each with its own slices to write.
    Rounding: the caller's rounding mode must be to nearest; another one changes directions, and the sign of 0 cells.
    Stack: no call needs more than 60 KiB of stack (measured); none allocates memory.
-   Machine: the archive is x86-64, by the System V calling convention. It calls memset and memcpy, and nothing else. */
+   Machine: the archive is x86-64 of level v2 (SSE4.2, POPCNT), by the System V calling convention. It calls memset and memcpy,
+   and nothing else. */
 #ifndef WEXXOLIN_H
 #define WEXXOLIN_H
 
