@@ -1,8 +1,9 @@
 use Prim.Native.Nat.{ℕ}
 use mathlib.Core.Path.{◌≡◌, ap₂}
-use mathlib.Core.Bool.{Bool, false, ◌&&◌}
+use mathlib.Core.Bool.{Bool, true, false, ◌&&◌}
 use lib.Dec.{leb}
-use borrow.Author.Tests.{eq-eqb, ne_eqb}
+use native.Mathlib.Omega.{arith}
+use borrow.Author.Tests.{eq-eqb, ne_eqb, lt-leb, le-leb}
 use Rattle.laws.proofs.Tests.{answered_no, answered_yes}
 use Rattle.steps.specs.declared.Progress.{Progress}
 use Rattle.steps.specs.Steps.{net_step}
@@ -14,11 +15,14 @@ returns-then-i-eq0 c = rw (eq-eqb _ 0 c.if-i-eq0.true)
 
 pub returns-then-unordered : goal.returns-then-unordered
 unfolding net_step
-returns-then-unordered c = rw (ne_eqb _ 0 c.if-i-eq0.false, c.if-unordered.true-raw)
+returns-then-unordered c =
+    let a = c.args in
+    let wrong : leb a.number a.past.last ≡ true = le-leb a.number a.past.last (omega arith) in
+    rw (ne_eqb _ 0 c.if-i-eq0.false, wrong)
 
 -- what 17 lets through has a number above the last, wherever its ends are
 ordered : (c : goal.Then-not-on_board) → (let a = c.args in leb a.number a.past.last ≡ false)
-ordered c = c.if-unordered.false-raw
+ordered c = let a = c.args in lt-leb a.number a.past.last (omega arith)
 
 -- the four tests of a net's two ends
 abbrev ends_on : (p : Progress) (sx sy gx gy : ℕ) → Bool
@@ -36,7 +40,7 @@ returns-then-not-on_board c =
 
 -- what 17 lets through has a number above the last, wherever its ends are
 ordered_2 : (c : goal.Else-not-on_board) → (let a = c.args in leb a.number a.past.last ≡ false)
-ordered_2 c = c.if-unordered.false-raw
+ordered_2 c = let a = c.args in lt-leb a.number a.past.last (omega arith)
 
 -- what 16 is judged by is whether both ends are on the board
 both_judged_2 : (k : goal.Else-not-on_board) → (let a = k.args in (k.is_vertex.result && k.is_vertex-2.result) ≡ ends_on a.past a.sx a.sy a.gx a.gy)
