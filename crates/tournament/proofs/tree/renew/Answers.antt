@@ -71,6 +71,6 @@ placed_2 l =
 
 pub returns : goal.returns
 returns c =
-    -- the last node_2 is the root, node_2 1: all nodes up to it are made anew
+    -- the last node is the root, node 1: all nodes up to it are made anew
     let at-root : c.loop-above.i ≤ 1 = omega (arith, c.loop-above.invariant.1, c.loop-above-test.false) in
     renewing_end c.loop-above.invariant.2 (placed_2 c).place-l at-root
