@@ -13,10 +13,10 @@ use Rattle.legs.proofs.Nearest.{sees_clear}
 use Rattle.tracks.specs.Tracks.{Point}
 use Rattle.bureau.specs.Paths.{is_leg_wrong}
 
--- a leg that nothing stops has sight
-pub clear_told : {b : Board} {ax ay bx by : ℕ} {stop : Stop} {r : Bool} → EndsOn b ax ay bx by → stop ≡ first_stop b ax ay bx by → r ≡ is_clear stop
-    → r ≡ sees b ax ay bx by
-clear_told {b} {ax} {ay} {bx} {by} on e f = f ∙ ap is_clear e ∙ sym (sees_clear b ax ay bx by on)
+-- a leg has sight exactly where nothing stops it
+pub sees_told : {b : Board} {ax ay bx by : ℕ} {stop : Stop} {clear : Bool} → EndsOn b ax ay bx by → stop ≡ first_stop b ax ay bx by
+    → is_clear stop ≡ clear → sees b ax ay bx by ≡ clear
+sees_told {b} {ax} {ay} {bx} {by} on e f = sees_clear b ax ay bx by on ∙ sym (ap is_clear e) ∙ f
 
 -- a leg's three tests, as far as they are made
 module _ (b : Board) (p q : Point) (is_last : Bool) where
@@ -24,11 +24,11 @@ module _ (b : Board) (p q : Point) (is_last : Bool) where
   unfolding is_leg_wrong
   leg_equal e = rw e
 
-  module _ (unequal : (eqb p.x q.x && eqb p.y q.y) ≡ false) {seen : Bool} (seen-is : seen ≡ sees b p.x p.y q.x q.y) where
-    pub leg_unseen : not seen ≡ true → true ≡ is_leg_wrong b p q is_last
+  module _ (unequal : (eqb p.x q.x && eqb p.y q.y) ≡ false) where
+    pub leg_unseen : sees b p.x p.y q.x q.y ≡ false → true ≡ is_leg_wrong b p q is_last
     unfolding is_leg_wrong
-    leg_unseen e = rw (unequal, ← seen-is, e)
+    leg_unseen e = rw (unequal, e)
 
-    pub leg_seen : not seen ≡ false → {r : Bool} → r ≡ pinched b q.x q.y → (r && not is_last) ≡ is_leg_wrong b p q is_last
+    pub leg_seen : sees b p.x p.y q.x q.y ≡ true → {r : Bool} → r ≡ pinched b q.x q.y → (r && not is_last) ≡ is_leg_wrong b p q is_last
     unfolding is_leg_wrong
-    leg_seen e g = rw (unequal, ← seen-is, e, g)
+    leg_seen e g = rw (unequal, e, g)

@@ -1,47 +1,34 @@
 // A call for the crates above, which says what it requires.
 ghost use Rattle.std.specs.Prelude.{◌≡◌};
-ghost use Rattle.board.specs.Board.{board};
-ghost use Rattle.board.specs.Inner.{Sound};
+ghost use Rattle.board.specs.Checked.{board_of};
 ghost use Rattle.legs.specs.Inner.{EndsOn};
-ghost use Rattle.legs.specs.Stops.{is_clear};
-ghost use Rattle.bureau.specs.Paths.{point, is_leg_wrong};
+ghost use Rattle.bureau.specs.Paths.{is_leg_wrong};
+ghost use Rattle.bureau.specs.Inner.{as_point};
 
+use board::checked::Board;
+use bureau::Point;
 use legs::Stop;
+use legs::leg::Leg;
 use walks::inner::first_stop;
 use walls::pinch::is_pinched;
 
-// Whether nothing stops a leg.
-fn is_clear(stop: Stop) -> bool
-    ensures { result ≡ is_clear stop }
-{
-    match stop {
-        Stop::Clear => true,
-        Stop::Cell(_, _) => false,
-        Stop::Edge(_, _, _, _) => false,
-        Stop::Vertex(_, _) => false,
-    }
-}
-
 // 27: whether the leg has no length or no sight, or ends in a pinched vertex that is not the path's last.
-pub fn is_leg_wrong(
-    cells: &[u8],
-    width: usize,
-    height: usize,
-    ax: usize,
-    ay: usize,
-    bx: usize,
-    by: usize,
-    last: bool,
-) -> bool
-    requires sound { Sound (board cells.now width height) }
-    requires ends_on { EndsOn (board cells.now width height) ax ay bx by }
-    ensures { result ≡ is_leg_wrong (board cells.now width height) (point ax ay) (point bx by) last }
+pub fn is_leg_wrong(board: &Board<'_>, from: Point, to: Point, last: bool) -> bool
+    requires { EndsOn (board_of board.now) from.x from.y to.x to.y }
+    ensures { result ≡ is_leg_wrong (board_of board.now) (as_point from) (as_point to) last }
 {
-    if (ax == bx) & (ay == by) {
+    if from == to {
         return true;
     }
-    if !is_clear(first_stop(cells, width, height, ax, ay, bx, by)) {
+    let leg = Leg {
+        board: *board,
+        ax: from.x,
+        ay: from.y,
+        bx: to.x,
+        by: to.y,
+    };
+    if first_stop(&leg) != Stop::Clear {
         return true;
     }
-    is_pinched(cells, width, height, bx, by) & !last
+    is_pinched(board, to.x, to.y) & !last
 }

@@ -1,5 +1,5 @@
 -- What the route call hands back, in document 01's numbers 0 to 8, and what it leaves in the lent slices.
-use Rattle.std.specs.Prelude.{ℕ, ◌≡◌, Bool, ◌||◌, cond, List, ◌++◌, ltb, eqb, Float, length, drop}
+use Rattle.std.specs.Prelude.{ℕ, ◌≡◌, Bool, ◌||◌, cond, List, ◌++◌, ltb, eqb, Float, length, drop, Result, Ok, Err}
 use Rattle.board.specs.Board.{Board, vertices}
 use Rattle.board.specs.Handed.{Verdict, refused, row, and_then, Handed, answer, unless, judged, plus_zero, leg_rows, refusal_row}
 use Rattle.length.specs.Floats.{in_cells}
@@ -7,7 +7,9 @@ use Rattle.reach.specs.Turns.{at}
 use Rattle.theta.specs.Search.{Problem, search, path}
 use Rattle.problem.specs.Problem.{problem}
 use Rattle.answer.specs.declared.Answer.{Answer}
-use Rattle.answer.specs.declared.Answer.TheVariants.{Found, NoPath, Refused, Work, Short}
+use Rattle.answer.specs.declared.Answer.TheVariants.{Found, NoPath}
+use Rattle.answer.specs.declared.RequestRefusal.{RequestRefusal}
+use Rattle.answer.specs.declared.RequestRefusal.TheVariants.{Request, Work, Short}
 
 -- ---- what is handed back
 
@@ -37,14 +39,18 @@ none expansions tests = record {
   values = record { cells = plus_zero; units = 0; vertices = 0; legs = 0; expansions = expansions; tests = tests };
 }
 
+-- the row of each refusal
+abbrev pub request_row : RequestRefusal → Verdict
+request_row (Request why) = refusal_row why
+request_row Work = refused 6 0 0
+request_row (Short needed) = refused 7 needed 0
+
 -- number, places and values of each case
-abbrev pub handed_route : Answer → Handed Route
-handed_route (Found cells units vertices legs expansions tests) =
+abbrev pub handed_route : Result Answer RequestRefusal → Handed Route
+handed_route (Ok (Found cells units vertices legs expansions tests)) =
     answer (record { cells = cells; units = units; vertices = vertices; legs = legs; expansions = expansions; tests = tests })
-handed_route (NoPath expansions tests) = none expansions tests
-handed_route (Refused why) = judged no_route (refusal_row why)
-handed_route Work = judged no_route (refused 6 0 0)
-handed_route (Short needed) = judged no_route (refused 7 needed 0)
+handed_route (Ok (NoPath expansions tests)) = none expansions tests
+handed_route (Err why) = judged no_route (request_row why)
 
 -- ---- the lent slices
 

@@ -4,7 +4,7 @@ ghost use Rattle.theta.specs.Back.{Traced};
 ghost use Rattle.answer.specs.Answers.{handed_route};
 ghost use Rattle.answer.specs.Inner.{PathGiven};
 
-use crate::Answer;
+use crate::{Answer, RequestRefusal};
 use board::Vertex;
 use length::inner::exact_cells;
 use path::inner::{count_path, write_path};
@@ -19,25 +19,23 @@ pub fn tell_path(
     tests: u64,
     parents: &[Vertex],
     path: &mut [Vertex],
-) -> Answer
+) -> Result<Answer, RequestRefusal>
     requires traced { Traced (length parents.now) start parents.now goal }
     requires units_bound { units < 2 ^ 53 }
     ensures { PathGiven start goal units legs expansions tests parents.now path.old path.new (handed_route result) }
 {
     let vertices = count_path(start, goal, parents);
     let room = path.len();
-    if vertices <= room {
-        write_path(start, goal, vertices, parents, path);
-    }
     if room < vertices {
-        return Answer::Short(vertices);
+        return Err(RequestRefusal::Short(vertices));
     }
-    Answer::Found {
+    write_path(start, goal, vertices, parents, path);
+    Ok(Answer::Found {
         cells: exact_cells(units),
         units,
         vertices,
         legs,
         expansions,
         tests,
-    }
+    })
 }

@@ -1,3 +1,2 @@
-mod Refused
 pub mod Calls
 pub mod Determined

@@ -1,16 +1,18 @@
 -- Each return of the call, from what the job's last record says: a slice that is too short, and the nets on the job's cells. Assumes nothing.
-use Prim.Native.Nat.{ℕ, ◌+◌, ◌*◌, ◌≤◌, ◌<◌}
-use mathlib.Core.Path.{◌≡◌, refl, sym, ap, ◌∙◌}
-use mathlib.Core.Bool.{Bool, true, false, not, ◌||◌, true≢false}
+use Prim.Native.Nat.{ℕ, ◌+◌, ◌*◌, ◌≤◌}
+use mathlib.Core.Path.{◌≡◌, sym, ◌∙◌}
+use mathlib.Core.Bool.{false}
 use mathlib.Core.List.{List, ◌++◌}
 use native.Mathlib.Omega.{arith}
 use lib.Dec.{ltb}
 use lib.ListN.{length, take, drop, take-append-drop}
-use borrow.Author.Tests.{le-ltb, ltb-false, ne_eqb}
-use Rattle.laws.proofs.Tests.{or_neither, answered_no, answered_yes}
+use lib.Seq.{take_at, drop_at}
+use borrow.Author.Tests.{ltb-false, ne_eqb}
+use Rattle.laws.proofs.Tests.{or_neither}
 use Rattle.board.specs.Limits.{largest_side}
 use Rattle.board.specs.Board.{board}
-use Rattle.board.specs.Handed.{passes, refused, row, Handed, judged}
+use Rattle.std.specs.Prelude.{Result, Err}
+use Rattle.board.specs.Handed.{passes, row}
 use Rattle.board.proofs.Verdicts.{both_pass, row_passes}
 use Rattle.board.proofs.Rows.{side_le}
 use Rattle.records.specs.Records.{records}
@@ -18,19 +20,18 @@ use Rattle.steps.specs.declared.Progress.{Progress}
 use Rattle.kinds.specs.Job.{nets, width, height, board_cells}
 use Rattle.faults.specs.Inner.{progress}
 use Rattle.faults.proofs.Accepted.{some_record, width_fits, height_fits}
-use Rattle.job.specs.declared.BoardAnswer.TheVariants.{Board}
-use Rattle.job.specs.Answers.{Sides, handed_board, board_row, BoardRead}
-use Rattle.job.proofs.Above.{BoardGiven, board_given, given_sound}
+use Rattle.job.proofs.Above.{BoardGiven, given_sound}
+use Rattle.painting.proofs.Grid.{cells_length}
 use Rattle.tracks.specs.Answers.{laid}
-use Rattle.bureau.specs.declared.CheckAnswer.{CheckAnswer}
+use Rattle.bureau.specs.declared.CheckRefusal.{CheckRefusal}
 use Rattle.approve.specs.Inner.{BothPassed}
-use Rattle.bureau.specs.Answers.{no_nets, handed_check, is_jobs, Searching, Slices, is_work_short, work_row, is_result_short, room_rows, Checked}
+use Rattle.bureau.specs.Answers.{Searching, Slices, is_work_short, work_row, is_result_short, room_rows, Checked}
 use Rattle.bureau.specs.Inner.{Room, OnJob, NetsChecked}
 use Rattle.bureau.proofs.Answering.{room_refused, nets_checked}
 use Rattle.lending.specs.declared.Lengths.{Lengths}
 use Rattle.lending.specs.declared.Short.{Short}
-use Rattle.lending.specs.declared.Short.TheVariants as short
-use Rattle.lending.specs.Short.{short_row, is_enough, lent_rows}
+use Rattle.lending.specs.Short.{short_row, refusal_of, lent_rows}
+use Rattle.lending.proofs.Refused.{short_refused}
 
 -- how long the lent slices are
 abbrev pub lengths : Slices → Lengths
@@ -68,18 +69,6 @@ enough_room p lent e =
       results_fit = row_passes (is_result_short p.nets lent.units lent.leg_counts) 21 0 results-pass;
     }
 
-enough_passes : (s : Short) → is_enough s ≡ true → short_row s ≡ passes
-enough_passes short.Nothing e = refl
-enough_passes short.Board e = absurd (true≢false (sym e))
-enough_passes short.Work e = absurd (true≢false (sym e))
-enough_passes short.Results e = absurd (true≢false (sym e))
-
-short_refuses : (s : Short) → is_enough s ≡ false → (a : ℕ) × (b : ℕ) × (c : ℕ) × (short_row s ≡ refused a b c)
-short_refuses short.Nothing e = absurd (true≢false e)
-short_refuses short.Board e = (19, 0, 0, refl)
-short_refuses short.Work e = (6, 0, 0, refl)
-short_refuses short.Results e = (21, 0, 0, refl)
-
 module _ {job file : List ℕ} {p : Progress} (P : BothPassed job file p) where
   -- what the last record leaves known
   told : (p.width ≡ width job) × (p.height ≡ height job) × (p.nets ≡ nets job)
@@ -100,27 +89,36 @@ module _ {job file : List ℕ} {p : Progress} (P : BothPassed job file p) where
   unfolding room_rows work_row lent_rows
   room_rows_lem lent = rw (told.0, told.1, told.2)
 
-  module _ (lent : Slices) (short : Short) (short_is : short_row short ≡ lent_rows p.width p.height p.nets (lengths lent)) where
+  module _ (lent : Slices) where
     -- one is too short: it is answered
-    pub stops_short : {enough : Bool} {r : CheckAnswer} → enough ≡ is_enough short → not enough ≡ true → handed_check r ≡ judged no_nets (short_row short)
-        → is_jobs r ≡ false → Checked job file lent lent r
-    stops_short e n h j =
-        let (a, b, c, g) = short_refuses short (answered_no e n) in
-        room_refused job file lent P.accepted.passed P.clean (room_rows_lem lent ∙ sym short_is ∙ g) (h ∙ ap (judged no_nets) g) j
+    pub stops_short : (short : Short) → short_row short ≡ lent_rows p.width p.height p.nets (lengths lent) → Checked job file lent lent (Err (refusal_of short))
+    stops_short short e =
+        let refused = short_refused short in
+        room_refused job file lent P.accepted.passed P.clean (refusal_of short) (room_rows_lem lent ∙ sym e ∙ sym refused.0) refused.1
 
-    pub enough : {e : Bool} → e ≡ is_enough short → not e ≡ false → Enough p lent
-    enough e n = enough_room p lent (sym short_is ∙ enough_passes short (answered_yes e n))
+    pub enough : passes ≡ lent_rows p.width p.height p.nets (lengths lent) → Enough p lent
+    enough e = enough_room p lent (sym e)
 
   -- ---- the cells are written to slices that are long enough
 
-  module _ {lent : Slices} (E : Enough p lent) {h : Handed Sides} {after : List ℕ} (read : BoardRead job lent.board h after) where
+  pub cells_fit : {lent : Slices} → Enough p lent
+      → (p.width ≡ width job) × (p.width * p.height ≡ width job * height job) × (p.width * p.height ≤ length lent.board)
+  cells_fit E = (told.0, rw (told.0, told.1), E.board_long)
+
+  module _ {lent : Slices} (E : Enough p lent) {after : List ℕ} (written : after ≡ board_cells job ++ drop (p.width * p.height) lent.board) where
     given : BoardGiven job lent.board p.width p.height p.nets after
-    unfolding board_row
     given =
-        let fit : width job * height job ≤ length lent.board = rw (told.0, told.1) at E.board_long in
-        let read_is : handed_board (Board (width job) (height job) (nets job)) ≡ board_row job (length lent.board) =
-        rw (P.accepted.passed, le-ltb (length lent.board) (width job * height job) fit) in
-        rw (told.0, told.1, told.2) (board_given (record { row_is = read_is; after_is = read.after_is }))
+        let n : ℕ = width job * height job in
+        let size : length (board_cells job) ≡ n = cells_length job n in
+        record {
+          accepted = P.accepted;
+          wide = told.0;
+          high = told.1;
+          many = told.2;
+          room = E.board_long;
+          front = rw (written, told.0, told.1) (take_at (board_cells job) (drop n lent.board) n size);
+          beyond = rw (written, told.0, told.1) (drop_at (board_cells job) (drop n lent.board) n size);
+        }
 
     pub full : length (take (p.width * p.height) after) ≡ p.width * p.height
     full = (given_sound given).full
@@ -162,7 +160,7 @@ module _ {job file : List ℕ} {p : Progress} (P : BothPassed job file p) where
         (ltb-false (length lent.units) p.nets u, ltb-false (length lent.leg_counts) p.nets c)
 
     -- the nets have been judged on them
-    pub decided : {r : CheckAnswer} {w : Searching} {units leg_counts : List ℕ}
+    pub decided : {r : Result ℕ CheckRefusal} {w : Searching} {units leg_counts : List ℕ}
         → NetsChecked job file lent.work w lent.units units lent.leg_counts leg_counts r
         → Checked job file lent (record { board = after; work = w; units = units; leg_counts = leg_counts }) r
     decided c =

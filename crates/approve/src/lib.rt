@@ -5,15 +5,15 @@ ghost use Rattle.bureau.specs.Answers.{slices, Checked};
 ghost use Rattle.approve.specs.Inner.{BothPassed};
 
 use board::Vertex;
-use bureau::CheckAnswer;
+use board::checked::Board;
+use bureau::CheckRefusal;
 use faults::inner::check_job;
-use job::inner::write_board;
 use judge::inner::check_nets;
 use lending::Lengths;
-use lending::inner::too_short;
+use lending::inner::check_room;
+use painting::inner::write_cells;
 use readback::check::check_routes;
-use scan::Step as FileStep;
-use steps::{Progress, Step};
+use steps::Progress;
 
 // Checks the job, then the file, then the room in the lent slices, then the nets.
 pub fn approve(
@@ -26,16 +26,11 @@ pub fn approve(
     legs: &mut [Vertex],
     units: &mut [u64],
     counts: &mut [u32],
-) -> CheckAnswer
+) -> Result<usize, CheckRefusal>
     ensures { Checked job.now file.now (slices board.old g.old parents.old marks.old legs.old units.old counts.old) (slices board.new g.new parents.new marks.new legs.new units.new counts.new) result }
 {
-    let checked = check_job(job);
-    let Step::Next(whole) = checked else {
-        return CheckAnswer::Job(checked.why());
-    };
-    if let FileStep::Refused(why) = check_routes(file) {
-        return CheckAnswer::Routes(why);
-    }
+    let whole = check_job(job)?;
+    check_routes(file)?;
     approve_accepted(
         job, whole, file, board, g, parents, marks, legs, units, counts,
     )
@@ -53,7 +48,7 @@ fn approve_accepted(
     legs: &mut [Vertex],
     units: &mut [u64],
     counts: &mut [u32],
-) -> CheckAnswer
+) -> Result<usize, CheckRefusal>
     requires { BothPassed job.now file.now whole }
     ensures { Checked job.now file.now (slices board.old g.old parents.old marks.old legs.old units.old counts.old) (slices board.new g.new parents.new marks.new legs.new units.new counts.new) result }
 {
@@ -69,24 +64,15 @@ fn approve_accepted(
         units: units.len(),
         counts: counts.len(),
     };
-    let short = too_short(width, height, nets, lent);
-    if !short.is_nothing() {
-        return short.answer();
-    }
+    check_room(width, height, nets, lent)?;
     let cells = width * height;
-    write_board(job, whole, board);
-    check_nets(
-        job,
-        file,
-        &board[..cells],
+    write_cells(job, width, cells, board);
+    let painted = Board {
+        cells: &board[..cells],
         width,
         height,
-        nets,
-        g,
-        parents,
-        marks,
-        legs,
-        units,
-        counts,
+    };
+    check_nets(
+        job, file, &painted, nets, g, parents, marks, legs, units, counts,
     )
 }

@@ -1,12 +1,16 @@
 -- The bits that are 1, byte by byte, and that they are the blocked cells where no filling bit is set. Assumes nothing.
 use Prim.Native.Nat.{ℕ, zero, suc, ◌+◌, ◌*◌, ◌-◌, ◌/◌, ◌%◌, ◌≤◌, ◌<◌}
-use mathlib.Core.Path.{◌≡◌, sym, ap, ap₂, ◌∙◌}
+use mathlib.Core.Path.{◌≡◌, refl, sym, ap, ap₂, ◌∙◌}
 use mathlib.Core.Bool.{Bool, false}
 use mathlib.Core.List.{List}
 use native.Mathlib.Omega.{arith}
 use lib.Count.{ones}
 use lib.Dec.{eqb}
-use lib.ListN.{length, get_or}
+use lib.ListN.{length, get_or, take}
+use native.Mathlib.Numerals.{add-one}
+use Rattle.std.specs.List.{sum_by}
+use Rattle.std.proofs.Math.Seq.{take-length}
+use Rattle.std.proofs.lemmas.List.Sums.{sum_by_more}
 use Rattle.laws.specs.Below.{how_many}
 use Rattle.laws.proofs.Below.{many_same, many_none, many_split}
 use Rattle.board.proofs.Numbers.{cell_index}
@@ -42,9 +46,17 @@ module _ (packed : List ℕ) where
           let r : (i * 8 + p) % 8 ≡ p = omega arith in
           rw (q, r) (ap (λ (d : ℕ). eqb d 1) (bit_digit (get_or packed i 0) p)))
 
-  pub bits_all : {i n : ℕ} → n ≡ how_many (i * 8) is_set → i ≡ length packed → n ≡ set_bits packed
-  unfolding set_bits
-  bits_all e s = e ∙ ap (λ (m : ℕ). how_many (m * 8) is_set) s
+  -- the ones of all bytes are the bits that are 1
+  module _ (bytes : (i : ℕ) → get_or packed i 0 < 256) where
+    summed : (n : ℕ) → n ≤ length packed → sum_by ones (take n packed) ≡ how_many (n * 8) is_set
+    unfolding how_many
+    summed zero l = refl
+    summed (suc n) l =
+        rw (← add-one n) (sum_by_more ones packed n 0 (omega arith) ∙ ap (λ (m : ℕ). m + ones (get_or packed n 0)) (summed n (omega arith)) ∙ sym (bytes_more n (bytes n)))
+
+    pub bits_summed : sum_by ones packed ≡ set_bits packed
+    unfolding set_bits
+    bits_summed = ap (λ (l : List ℕ). sum_by ones l) (sym (take-length packed)) ∙ summed (length packed) (omega arith)
 
   -- ---- row by row, where the filling is clean
 

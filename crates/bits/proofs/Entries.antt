@@ -7,6 +7,8 @@ use native.Mathlib.Numerals.{add-one}
 use native.Mathlib.Omega.{arith}
 use lib.ListN.{length, get_or, set, drop, length-append, length-drop, get_or-append}
 use lib.Seq.{drop-cons, append_snoc, set_at, get_or_at, ext_get_or}
+use Rattle.std.proofs.Math.Seq.{drop-length}
+use Rattle.std.proofs.lemmas.List.{append-nil}
 use Rattle.laws.proofs.Tests.{order}
 use Rattle.bits.specs.Packed.{entries}
 
@@ -48,6 +50,10 @@ module _ (f : ℕ → ℕ) (n : ℕ) (before : List ℕ) {now : List ℕ} (e : n
 
   pub written_next : {a : ℕ} → a ≡ f n → n < length before → set now n a ≡ entries (n + 1) f ++ drop (n + 1) before
   written_next s l = rw (e, s) (written_more f n before l)
+
+  -- and when its last entry is written it holds the entries alone
+  pub written_all : {m : ℕ} → length before ≡ n → n ≡ m → now ≡ entries m f
+  written_all {m} s t = e ∙ rw (t, ← (s ∙ t), drop-length before) (append-nil (entries (length before) f))
 
 -- a list whose entries these are
 pub entries_all : (f : ℕ → ℕ) (l : List ℕ) (n : ℕ) → length l ≡ n → ((k : ℕ) → k < n → f k ≡ get_or l k 0) → entries n f ≡ l

@@ -16,14 +16,11 @@ pub fn count_bits(packed: &[u8]) -> usize
     requires { length packed.now ≤ largest_side * largest_side }
     ensures { result ≡ set_bits packed.now }
 {
-    let mut n: usize = 0;
-    for i in 0..packed.len() {
-        n += u8::count_ones(packed[i]) as usize;
-    }
-    n
+    packed.iter().map(|byte| byte.count_ones() as usize).sum()
 }
 
 // The bit of cell (x, y).
+#[tactic(auto, unfolding(crate::specs::Packed::bit_of, crate::specs::Packed::bit_at))]
 pub fn bit_of(packed: &[u8], width: usize, x: usize, y: usize) -> u8
     requires { (x ≤ largest_side) × (byte_of width x y < length packed.now) }
     ensures { result ≡ bit_of packed.now width x y }
@@ -33,6 +30,7 @@ pub fn bit_of(packed: &[u8], width: usize, x: usize, y: usize) -> u8
 }
 
 // The bit for column x of row y: the cell's byte, or 0 in the filling.
+#[tactic(auto, unfolding(crate::specs::Packed::bit_from))]
 fn bit_from(cells: &[u8], width: usize, x: usize, y: usize) -> u8
     requires { y * width + width ≤ length cells.now }
     ensures { result ≡ bit_from cells.now width x y }

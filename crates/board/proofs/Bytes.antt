@@ -1,7 +1,7 @@
 -- The first bad byte of a board's cells, from a place on, and whether there is one. Assumes nothing.
 use mathlib.Core.Path.{◌≡◌, refl, sym, ◌∙◌}
 use mathlib.Core.Logic.{⊎_elim}
-use mathlib.Core.Bool.{Bool, true, false, ◌||◌}
+use mathlib.Core.Bool.{Bool, true, false, ◌||◌, cond}
 use mathlib.Core.List.{List, [], ◌∷◌}
 use Prim.Native.Nat.{ℕ, zero, suc, ◌+◌, ◌≤◌, ◌<◌}
 use native.Mathlib.Nat.{zero-lt-suc}
@@ -12,7 +12,10 @@ use lib.ListN.{length, get_or, drop, get_or-eq_default}
 use lib.Seq.{drop-cons, drop-length}
 use borrow.Author.Tests.{le-leb, lt-leb, le-ltb, lt-ltb}
 use Rattle.laws.proofs.Tests.{order, or_false}
-use Rattle.board.specs.Handed.{first_bad}
+use Rattle.std.specs.Prelude.{Some, None}
+use Rattle.std.specs.List.{position, position_or_len}
+use Rattle.std.proofs.lemmas.List.Recursion.{is_position_or_len}
+use Rattle.board.specs.Handed.{first_bad, bad_place}
 
 module _ (l : List ℕ) (i : ℕ) where
   pub bad_here : i < length l → 1 < get_or l i 0 → first_bad (drop i l) ≡ 0
@@ -96,3 +99,30 @@ bad_so_far false l i h = rw (drop-cons l i 0 h, one_more, add-one i)
 pub bad_at_end : (bad : Bool) (l : List ℕ) (i : ℕ) → i ≡ length l → (bad || has_bad (drop i l)) ≡ bad
 unfolding first_bad
 bad_at_end bad l i e = rw (e, drop-length l) (or_false bad)
+
+-- ---- the first bad byte as the library's search finds it
+
+first_bad_is : (l : List ℕ) → first_bad l ≡ position_or_len (ltb 1) l
+unfolding first_bad
+first_bad_is = is_position_or_len first_bad (ltb 1) refl step
+  where
+    step : (x : ℕ) (xs : List ℕ) → first_bad (x ∷ xs) ≡ cond (ltb 1 x) 0 (1 + first_bad xs)
+    step x xs =
+        ⊎_elim (λ (h : 1 < x). rw (lt-leb x 1 h, lt-ltb 1 x h) refl)
+        (λ (g : x ≤ 1). rw (le-leb x 1 g, le-ltb 1 x g) (omega arith)) (order 1 x)
+
+pub bad_place_is : (l : List ℕ) → position (ltb 1) l ≡ bad_place l
+bad_place_is l = rw (first_bad_is l) refl
+
+pub no_bad_place : (l : List ℕ) → has_bad l ≡ false → bad_place l ≡ None
+no_bad_place l e = rw e refl
+
+pub some_bad_place : (l : List ℕ) (at : ℕ) → bad_place l ≡ Some at → (first_bad l < length l) × (at ≡ first_bad l)
+some_bad_place l at e =
+    ⊎_elim (λ (h : first_bad l < length l). (h, let f = rw (lt-ltb _ _ h) at e in cc))
+    (λ (g : length l ≤ first_bad l). let f = rw (le-ltb _ _ g) at e in cc) (order (first_bad l) (length l))
+
+pub none_bad_place : (l : List ℕ) → bad_place l ≡ None → length l ≤ first_bad l
+none_bad_place l e =
+    ⊎_elim (λ (h : first_bad l < length l). let f = rw (lt-ltb _ _ h) at e in cc)
+    (λ (g : length l ≤ first_bad l). g) (order (first_bad l) (length l))

@@ -6,9 +6,8 @@ use lib.Dec.{eqb}
 use Rattle.laws.proofs.Determined.{undone}
 use Rattle.board.specs.declared.Refusal.{Refusal}
 use Rattle.board.specs.declared.Refusal.TheVariants.{Side, Count, Byte, First, Second}
-use Rattle.board.specs.declared.Checked.{Checked}
-use Rattle.board.specs.declared.Checked.TheVariants.{Accepted, Refused}
-use Rattle.board.specs.Handed.{Verdict, passes, refused, verdict}
+use Rattle.std.specs.Prelude.{Result, Ok, Err}
+use Rattle.board.specs.Handed.{Verdict, passes, refused, refusal_row, verdict}
 
 -- the refusal with this number and place
 abbrev pub refusal_of : (number place : ℕ) → Refusal
@@ -16,19 +15,19 @@ refusal_of number place =
     cond (eqb number 1) Side (cond (eqb number 2) Count (cond (eqb number 3) (Byte place) (cond (eqb number 4) First Second)))
 
 -- the answer with this verdict
-checked_of : Verdict → Checked
-checked_of passes = Accepted
-checked_of (refused number place second) = Refused (refusal_of number place)
+checked_of : Verdict → Result (Unit {0}) Refusal
+checked_of passes = Ok tt
+checked_of (refused number place second) = Err (refusal_of number place)
 
-back : (r : Checked) → checked_of (verdict r) ≡ r
+back : (r : Result (Unit {0}) Refusal) → checked_of (verdict refusal_row r) ≡ r
 unfolding checked_of
-back Accepted = refl
-back (Refused Side) = refl
-back (Refused Count) = refl
-back (Refused (Byte at)) = refl
-back (Refused First) = refl
-back (Refused Second) = refl
+back (Ok a) = refl
+back (Err Side) = refl
+back (Err Count) = refl
+back (Err (Byte at)) = refl
+back (Err First) = refl
+back (Err Second) = refl
 
 -- of `check_board` and `check_leg`
-pub checked_determined : {r s : Checked} {v : Verdict} → verdict r ≡ v → verdict s ≡ v → r ≡ s
-checked_determined = undone verdict checked_of back
+pub checked_determined : {r s : Result (Unit {0}) Refusal} {v : Verdict} → verdict refusal_row r ≡ v → verdict refusal_row s ≡ v → r ≡ s
+checked_determined = undone (verdict refusal_row) checked_of back

@@ -1,9 +1,6 @@
 -- What another shape is told of an answer: each arm of a match by one of these. Assumes nothing.
-use mathlib.Core.Path.{◌≡◌, refl, sym, ap, ap₂, ◌∙◌}
-use Prim.Native.Nat.{ℕ}
-use Rattle.board.specs.declared.Refusal.{Refusal}
-use Rattle.board.specs.declared.Refusal.TheVariants as board
-use Rattle.board.specs.Handed.{Verdict, refused, Handed, judged, refusal_row, number_in, place_in}
+use mathlib.Core.Path.{◌≡◌, sym, ap, ◌∙◌}
+use Rattle.board.specs.Handed.{Verdict, Handed, judged}
 
 -- an answer that is known to be one variant is told as that variant is
 pub told_as : {Answer Said Told : Type 0} (handed : Answer → Said) (told : Said → Told) {a b : Answer} {r : Told} → a ≡ b
@@ -14,15 +11,3 @@ told_as handed told e f = f ∙ ap (λ x. told (handed x)) (sym e)
 pub told_refused : {Answer Values Told : Type 0} (handed : Answer → Handed Values) (told : Handed Values → Told) (none : Values) {v w : Verdict} {a b : Answer}
     {r : Told} → a ≡ b → handed b ≡ judged none w → v ≡ w → r ≡ told (judged none v) → r ≡ told (handed a)
 told_refused handed told none e f g h = told_as handed told e (h ∙ ap (λ v. told (judged none v)) g ∙ ap told (sym f))
-
--- ---- a refusal is its number and its place
-
-pub refusal_is : (why : Refusal) {n p : ℕ} → n ≡ number_in (refusal_row why) → p ≡ place_in (refusal_row why) → refused n p 0 ≡ refusal_row why
-refusal_is why e f = ap₂ (λ (n p : ℕ). refused n p 0) e f ∙ go why
-  where
-    go : (w : Refusal) → refused (number_in (refusal_row w)) (place_in (refusal_row w)) 0 ≡ refusal_row w
-    go board.Side = refl
-    go board.Count = refl
-    go (board.Byte at) = refl
-    go board.First = refl
-    go board.Second = refl

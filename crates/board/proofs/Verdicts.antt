@@ -3,8 +3,7 @@ use mathlib.Core.Path.{◌≡◌, refl, sym, ap, ◌∙◌}
 use mathlib.Core.Bool.{Bool, true, false}
 use Prim.Native.Nat.{ℕ}
 use native.Mathlib.Omega.{arith}
-use Rattle.board.specs.declared.Checked.{Checked}
-use Rattle.board.specs.declared.Checked.TheVariants.{Accepted, Refused}
+use Rattle.std.specs.Prelude.{Result, Ok, Err}
 use Rattle.board.specs.declared.Refusal.{Refusal}
 use Rattle.board.specs.declared.Refusal.TheVariants.{Side, Count, Byte, First, Second}
 use Rattle.board.specs.Handed.{Verdict, passes, refused, row, and_then, Handed, unless, judged, refusal_row, verdict}
@@ -38,17 +37,18 @@ refusal_first Second w = refl
 pub refuses_on : {v : Verdict} (why : Refusal) (w : Verdict) → refusal_row why ≡ v → refusal_row why ≡ and_then v w
 refuses_on why w e = sym (refusal_first why w) ∙ ap (λ (v : Verdict). and_then v w) e
 
+-- ---- an answer, and what is handed back by it
+
+pub accepted : {A E : Type 0} (row_of : E → Verdict) {r : Result A E} {a : A} {v : Verdict} → r ≡ Ok a → verdict row_of r ≡ v → v ≡ passes
+accepted row_of g e = sym e ∙ ap (verdict row_of) g
+
+pub refused_row : {A E : Type 0} (row_of : E → Verdict) {r : Result A E} {why : E} {v : Verdict} → r ≡ Err why → verdict row_of r ≡ v → row_of why ≡ v
+refused_row row_of g e = sym (ap (verdict row_of) g) ∙ e
+
 -- an answer that refuses does so whatever comes after
-pub checked_refuses : {r : Checked} {why : Refusal} {v : Verdict} (w : Verdict) → r ≡ Refused why → verdict r ≡ v → verdict r ≡ and_then v w
-checked_refuses {why = why} w e f = ap verdict e ∙ refuses_on why w (sym (ap verdict e) ∙ f)
-
--- ---- a check's answer, and what is handed back by it
-
-pub accepted : {r : Checked} {v : Verdict} → r ≡ Accepted → verdict r ≡ v → v ≡ passes
-accepted g e = sym e ∙ ap verdict g
-
-pub refused_row : {r : Checked} {why : Refusal} {v : Verdict} → r ≡ Refused why → verdict r ≡ v → refusal_row why ≡ v
-refused_row g e = sym (ap verdict g) ∙ e
+pub checked_refuses : {A : Type 0} {r : Result A Refusal} {why : Refusal} {v : Verdict} (w : Verdict) → r ≡ Err why → verdict refusal_row r ≡ v
+    → verdict refusal_row r ≡ and_then v w
+checked_refuses {why = why} w e f = ap (verdict refusal_row) e ∙ refuses_on why w (refused_row refusal_row e f)
 
 -- a refusal is handed back alike, whatever would have come after it
 pub refusal_handed : {Values : Type 0} (none : Values) (why : Refusal) {v : Verdict} (rest : Handed Values) → refusal_row why ≡ v

@@ -1,12 +1,10 @@
 -- What a call hands back, in document 01's numbers, and its rows 1 to 5.
-use Rattle.std.specs.Prelude.{ℕ, zero, suc, ◌*◌, Bool, true, false, not, ◌&&◌, cond, List, [], ◌∷◌, leb, ltb, eqb, pos, Float, length}
+use Rattle.std.specs.Prelude.{ℕ, zero, suc, ◌*◌, Bool, true, false, not, ◌&&◌, cond, List, [], ◌∷◌, leb, ltb, eqb, pos, Float, length, Option, Some, None, Result, Ok, Err}
 use Rattle.std.specs.Float.{fin}
 use Rattle.board.specs.Limits.{largest_side}
 use Rattle.board.specs.Board.{Board, is_vertex}
 use Rattle.board.specs.declared.Refusal.{Refusal}
 use Rattle.board.specs.declared.Refusal.TheVariants.{Side, Count, Byte, First, Second}
-use Rattle.board.specs.declared.Checked.{Checked}
-use Rattle.board.specs.declared.Checked.TheVariants.{Accepted, Refused}
 
 -- ---- what rows of the table say of a request
 
@@ -66,6 +64,10 @@ unfoldable pub first_bad : List ℕ → ℕ
 first_bad [] = zero
 first_bad (c ∷ cs) = cond (leb c 1) (suc (first_bad cs)) zero
 
+-- the place of that byte, if there is one
+abbrev pub bad_place : List ℕ → Option ℕ
+bad_place cells = cond (ltb (first_bad cells) (length cells)) (Some (first_bad cells)) None
+
 -- rows 2 and 3
 abbrev pub cell_rows : Board → Verdict
 cell_rows b =
@@ -94,19 +96,12 @@ refusal_row (Byte at) = refused 3 at 0
 refusal_row First = refused 4 0 0
 refusal_row Second = refused 5 0 0
 
-abbrev pub verdict : Checked → Verdict
-verdict Accepted = passes
-verdict (Refused why) = refusal_row why
+-- what an answer says of a request: it passes, or its refusal has this row
+abbrev pub verdict : {A E : Type 0} → (row : E → Verdict) → Result A E → Verdict
+verdict row (Ok a) = passes
+verdict row (Err why) = row why
 
--- a refusal's number and place
-abbrev pub number_in : Verdict → ℕ
-number_in passes = 0
-number_in (refused number place second) = number
-
-abbrev pub place_in : Verdict → ℕ
-place_in passes = 0
-place_in (refused number place second) = place
-
-abbrev pub second_in : Verdict → ℕ
-second_in passes = 0
-second_in (refused number place second) = second
+-- what is handed back of an answer: its values, or the row of its refusal
+abbrev pub handed : {A E Values : Type 0} → (none : Values) → (values : A → Values) → (row : E → Verdict) → Result A E → Handed Values
+handed none values row (Ok a) = answer (values a)
+handed none values row (Err why) = judged none (row why)

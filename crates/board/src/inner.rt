@@ -1,8 +1,7 @@
 // Calls for the crates above, which have checked their board: each says what it requires.
-ghost use Rattle.std.specs.Prelude.{◌≡◌, ◌&&◌, leb, ◌-◌, ◌≤◌, ◌<◌};
+ghost use Rattle.std.specs.Prelude.{◌≡◌, ◌&&◌, leb, ◌-◌, ◌≤◌};
 ghost use Rattle.board.specs.Limits.{largest_side};
-ghost use Rattle.board.specs.Board.{board, blocked, number_of, column_of, row_of};
-ghost use Rattle.board.specs.Inner.{Sound};
+ghost use Rattle.board.specs.Board.{number_of, column_of, row_of};
 ghost use Rattle.board.specs.Handed.{side_fits};
 
 use crate::{SIDE, Vertex};
@@ -19,15 +18,6 @@ pub fn line_before(c: usize) -> usize
     ensures { result ≡ c - 1 }
 {
     if c == 0 { 0 } else { c - 1 }
-}
-
-// Whether a cell of the board is blocked.
-pub fn is_cell_blocked(cells: &[u8], width: usize, height: usize, x: usize, y: usize) -> bool
-    requires sound { Sound (board cells.now width height) }
-    requires x_lt_width { (x < width) × (y < height) }
-    ensures { result ≡ blocked (board cells.now width height) x y }
-{
-    cells[y * width + x] == 1
 }
 
 // Whether (x, y) is a vertex of a board.

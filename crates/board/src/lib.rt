@@ -1,14 +1,17 @@
 // The board: its largest side, its vertices' numbers, and the checks that every call makes first.
 #![tactic(auto)]
 
-ghost use Rattle.std.specs.Prelude.{◌≡◌, ltb, length};
+ghost use Rattle.std.specs.Prelude.{◌≡◌, ltb, nat_lt, position, length};
 ghost use Rattle.board.specs.Limits.{largest_side, most_vertices};
 ghost use Rattle.board.specs.Board.{board};
-ghost use Rattle.board.specs.Handed.{first_bad, board_rows, leg_rows, refusal_row, verdict, number_in, place_in};
+ghost use Rattle.board.specs.Handed.{first_bad, bad_place, board_rows, leg_rows, refusal_row, verdict};
 
 use inner::{is_vertex, side_fits};
+pub use row::{Numbered, Row};
 
+pub mod checked;
 pub mod inner;
+pub mod row;
 
 // A vertex number as the lent slices hold it.
 pub type Vertex = u16;
@@ -23,7 +26,7 @@ pub const LINE: usize = SIDE + 1;
 pub const MOST: usize = LINE * LINE;
 
 // Why the checks refuse a request: document 01's numbers 1 to 5, a bad cell byte with its index.
-#[derive(Clone, Copy)]
+#[derive(Clone, Copy, PartialEq, Eq)]
 pub enum Refusal {
     Side,
     Count,
@@ -32,39 +35,18 @@ pub enum Refusal {
     Second,
 }
 
-impl Refusal {
-    // Document 01's number.
-    pub fn number(self) -> u64
-        ensures { result ≡ number_in (refusal_row self) }
-    {
+impl Numbered for Refusal {
+    ghost row = { refusal_row };
+
+    fn row(self) -> Row {
         match self {
-            Refusal::Side => 1,
-            Refusal::Count => 2,
-            Refusal::Byte(_) => 3,
-            Refusal::First => 4,
-            Refusal::Second => 5,
+            Refusal::Side => Row::of(1),
+            Refusal::Count => Row::of(2),
+            Refusal::Byte(at) => Row::at(3, at),
+            Refusal::First => Row::of(4),
+            Refusal::Second => Row::of(5),
         }
     }
-
-    // The index of the bad byte, 0 where no place is named.
-    pub fn place(self) -> usize
-        ensures { result ≡ place_in (refusal_row self) }
-    {
-        match self {
-            Refusal::Side => 0,
-            Refusal::Count => 0,
-            Refusal::Byte(at) => at,
-            Refusal::First => 0,
-            Refusal::Second => 0,
-        }
-    }
-}
-
-// What the checks of a request say.
-#[derive(Clone, Copy)]
-pub enum Checked {
-    Accepted,
-    Refused(Refusal),
 }
 
 // The code's largest side is the definition's.
@@ -86,47 +68,47 @@ fn has_bad(cells: &[u8]) -> bool
     ensures { result ≡ ltb (first_bad cells.now) (length cells.now) }
 {
     let mut bad = false;
-    for i in 0..cells.len() {
-        bad = bad | (1 < cells[i]);
+    for cell in cells {
+        bad |= 1 < *cell;
     }
     bad
 }
 
-// The index of the first byte that is neither 0 nor 1, or the length.
-fn first_bad(cells: &[u8]) -> usize
-    ensures { result ≡ first_bad cells.now }
+// The index of the first byte that is neither 0 nor 1, if there is one.
+fn first_bad(cells: &[u8]) -> Option<usize>
+    ensures { result ≡ position (λ cell. nat_lt 1 cell) cells.now }
 {
-    if !has_bad(cells) {
-        return cells.len();
+    cells.iter().position(|cell| 1 < *cell)
+}
+
+// The same, where a look at many bytes at once tells first that there is none.
+fn find_bad(cells: &[u8]) -> Option<usize>
+    ensures { result ≡ bad_place cells.now }
+{
+    if has_bad(cells) {
+        first_bad(cells)
+    } else {
+        None
     }
-    let mut i = 0;
-    while i < cells.len() {
-        if 1 < cells[i] {
-            return i;
-        }
-        i += 1;
-    }
-    i
 }
 
 // Refusals 1, 2 and 3: sides, number of cells, cell bytes.
-pub fn check_board(cells: &[u8], width: usize, height: usize) -> Checked
-    ensures { verdict result ≡ board_rows (board cells.now width height) }
+pub fn check_board(cells: &[u8], width: usize, height: usize) -> Result<(), Refusal>
+    ensures { verdict refusal_row result ≡ board_rows (board cells.now width height) }
 {
     if !side_fits(width) {
-        return Checked::Refused(Refusal::Side);
+        return Err(Refusal::Side);
     }
     if !side_fits(height) {
-        return Checked::Refused(Refusal::Side);
+        return Err(Refusal::Side);
     }
     if cells.len() != width * height {
-        return Checked::Refused(Refusal::Count);
+        return Err(Refusal::Count);
     }
-    let at = first_bad(cells);
-    if at < cells.len() {
-        return Checked::Refused(Refusal::Byte(at));
+    match find_bad(cells) {
+        Some(at) => Err(Refusal::Byte(at)),
+        None => Ok(()),
     }
-    Checked::Accepted
 }
 
 // Refusals 1 to 5, the lowest first: the board's, then the first vertex and the second.
@@ -138,18 +120,15 @@ pub fn check_leg(
     ay: usize,
     bx: usize,
     by: usize,
-) -> Checked
-    ensures { verdict result ≡ leg_rows (board cells.now width height) ax ay bx by }
+) -> Result<(), Refusal>
+    ensures { verdict refusal_row result ≡ leg_rows (board cells.now width height) ax ay bx by }
 {
-    let checked = check_board(cells, width, height);
-    let Checked::Accepted = checked else {
-        return checked;
-    };
+    check_board(cells, width, height)?;
     if !is_vertex(width, height, ax, ay) {
-        return Checked::Refused(Refusal::First);
+        return Err(Refusal::First);
     }
     if !is_vertex(width, height, bx, by) {
-        return Checked::Refused(Refusal::Second);
+        return Err(Refusal::Second);
     }
-    Checked::Accepted
+    Ok(())
 }

@@ -1,6 +1,6 @@
 -- What the check hands back and leaves, step by step. Assumes nothing.
 use Prim.Native.Nat.{ℕ, zero, suc, ◌+◌, ◌≤◌, ◌<◌}
-use mathlib.Core.Path.{◌≡◌, refl, ap, ◌∙◌}
+use mathlib.Core.Path.{◌≡◌, refl, sym, ap, ◌∙◌}
 use mathlib.Core.Logic.{⊎_elim}
 use mathlib.Core.Bool.{Bool, true, false, cond}
 use mathlib.Core.List.{List}
@@ -9,7 +9,8 @@ use native.Mathlib.Numerals.{add-one}
 use lib.Dec.{ltb}
 use borrow.Author.Tests.{ltb-false}
 use Rattle.laws.proofs.Tests.{order}
-use Rattle.board.specs.Handed.{passes, refused, judged}
+use Rattle.std.specs.Prelude.{Result, Ok, Err}
+use Rattle.board.specs.Handed.{Verdict, passes, refused, and_then}
 use Rattle.board.proofs.Verdicts.{no_pass}
 use Rattle.records.specs.Records.{in_order}
 use Rattle.records.proofs.InOrder.{first_refused}
@@ -23,11 +24,11 @@ use Rattle.tracks.specs.declared.RouteRefusal.TheVariants as route-refusal
 use Rattle.tracks.specs.Tracks.{Route, routes_in}
 use Rattle.tracks.specs.Faults as route-faults
 use Rattle.tracks.specs.Answers.{laid}
-use Rattle.bureau.specs.declared.CheckAnswer.{CheckAnswer}
-use Rattle.bureau.specs.declared.CheckAnswer.TheVariants as said
+use Rattle.bureau.specs.declared.CheckRefusal.{CheckRefusal}
+use Rattle.bureau.specs.declared.CheckRefusal.TheVariants as said
 use Rattle.bureau.specs.Paths.{place_row}
 use Rattle.bureau.specs.Nets.{job_board, job_net, points_for, odd_row, net_row, nets_rows, units_of, legs_of}
-use Rattle.bureau.specs.Answers.{no_nets, handed_check, is_jobs, is_refused, Searching, Slices, room_rows, early_rows, check_rows}
+use Rattle.bureau.specs.Answers.{check_refusal_row, of_job, is_refused, Searching, Slices, room_rows, early_rows, check_rows}
 use Rattle.bureau.specs.Answers.{check_row, after_net, after_nets, slices_after, Checked}
 use Rattle.bureau.specs.Inner.{NetsChecked}
 
@@ -40,40 +41,60 @@ row_none place end number net e = ltb-false place end (none (ltb place end) e)
     none true e = absurd (no_pass e)
     none false e = refl
 
+-- ---- a refusal refuses, whatever comes after it
+
+pub refuses : (why : CheckRefusal) → (n : ℕ) × (p : ℕ) × (s : ℕ) × (check_refusal_row why ≡ refused n p s)
+refuses (said.Job why) = let k = listed why in (k.number, k.place, k.second, k.row_is)
+refuses (said.Routes route-refusal.Uneven) = (11, 0, 0, refl)
+refuses (said.Routes (route-refusal.Unknown i)) = (13, i, 0, refl)
+refuses (said.Routes (route-refusal.Unused i k)) = (23, i, k, refl)
+refuses (said.Routes (route-refusal.Order i)) = (22, i, 0, refl)
+refuses said.Board = (19, 0, 0, refl)
+refuses said.Work = (6, 0, 0, refl)
+refuses said.Results = (21, 0, 0, refl)
+refuses (said.Odd net) = (24, net, 0, refl)
+refuses (said.End net) = (25, net, 0, refl)
+refuses (said.Off net place) = (26, net, place, refl)
+refuses (said.Leg net place) = (27, net, place, refl)
+refuses (said.Path net) = (28, net, 0, refl)
+
+stays : (why : CheckRefusal) (more : Verdict) → and_then (check_refusal_row why) more ≡ check_refusal_row why
+stays why more = let (n, p, s, r) = refuses why in rw r
+
+is_refusal : (why : CheckRefusal) → is_refused (check_refusal_row why) ≡ true
+is_refusal why = let (n, p, s, r) = refuses why in rw r
+
 -- ---- refused before anything is written
 
 module _ (job file : List ℕ) (before : Slices) where
   -- rows that refuse early leave all slices as they were
-  kept : {r : CheckAnswer} {n p s : ℕ} → early_rows job file before ≡ refused n p s → handed_check r ≡ judged no_nets (refused n p s)
-      → is_jobs r ≡ is_refused (job_rows job) → Checked job file before before r
+  kept : (why : CheckRefusal) → early_rows job file before ≡ check_refusal_row why → of_job why ≡ is_refused (job_rows job)
+      → Checked job file before before (Err why)
   unfolding check_row check_rows slices_after
-  kept e h j = record { row_is = h ∙ rw e; job_is = j; after_is = rw e }
+  kept why e j =
+      let (n, p, s, r) = refuses why in
+      let f : early_rows job file before ≡ refused n p s = e ∙ r in
+      record { row_is = rw (r, f); job_is = j; after_is = rw f }
 
-  pub job_refused : (why : JobRefusal) → job_rows job ≡ job-refusals.refusal_row why → Checked job file before before (said.Job why)
+  pub job_refused : (why : JobRefusal) → job_rows job ≡ job-refusals.refusal_row why → Checked job file before before (Err (said.Job why))
   unfolding early_rows
-  job_refused why e =
-      let k = listed why in
-      let f : job_rows job ≡ refused k.number k.place k.second = e ∙ k.row_is in
-      let g : early_rows job file before ≡ refused k.number k.place k.second = rw f in
-      kept g (rw k.row_is) (rw f)
+  job_refused why e = kept (said.Job why) (rw e (stays (said.Job why) _)) (rw e (sym (is_refusal (said.Job why))))
 
   module _ (accepted : job_rows job ≡ passes) where
-    pub file_refused : (why : RouteRefusal) → route-faults.file_rows file ≡ route-faults.refusal_row why → Checked job file before before (said.Routes why)
+    pub file_refused : (why : RouteRefusal) → route-faults.file_rows file ≡ route-faults.refusal_row why
+        → Checked job file before before (Err (said.Routes why))
     unfolding early_rows
-    file_refused route-refusal.Uneven e = kept (rw (accepted, e)) refl (rw accepted)
-    file_refused (route-refusal.Unknown i) e = kept (rw (accepted, e)) refl (rw accepted)
-    file_refused (route-refusal.Unused i k) e = kept (rw (accepted, e)) refl (rw accepted)
-    file_refused (route-refusal.Order i) e = kept (rw (accepted, e)) refl (rw accepted)
+    file_refused why e = kept (said.Routes why) (rw (accepted, e) (stays (said.Routes why) _)) (rw accepted)
 
     module _ (clean : route-faults.file_rows file ≡ passes) where
       -- a lent slice is too short
-      pub room_refused : {r : CheckAnswer} {n p s : ℕ} → room_rows job before ≡ refused n p s → handed_check r ≡ judged no_nets (refused n p s) → is_jobs r ≡ false
-          → Checked job file before before r
+      pub room_refused : (why : CheckRefusal) → room_rows job before ≡ check_refusal_row why → of_job why ≡ false
+          → Checked job file before before (Err why)
       unfolding early_rows
-      room_refused e h j = kept (rw (accepted, clean, e)) h (j ∙ rw accepted)
+      room_refused why e j = kept why (rw (accepted, clean, e)) (j ∙ rw accepted)
 
       -- all of that passes: the cells are written, and the nets decide
-      pub nets_checked : room_rows job before ≡ passes → {r : CheckAnswer} {w : Searching} {units leg_counts : List ℕ}
+      pub nets_checked : room_rows job before ≡ passes → {r : Result ℕ CheckRefusal} {w : Searching} {units leg_counts : List ℕ}
           → NetsChecked job file before.work w before.units units before.leg_counts leg_counts r
           → Checked job file before (record { board = laid (board_cells job) before.board; work = w; units = units; leg_counts = leg_counts }) r
       unfolding early_rows check_row check_rows slices_after
@@ -89,24 +110,21 @@ module _ (job file : List ℕ) (before : Slices) where
 
 module _ (job file : List ℕ) (w : Searching) (units leg_counts : List ℕ) where
   -- 24 writes nothing
-  pub odd_refused : {n : ℕ} → odd_row job (routes_in file) ≡ refused 24 n 0 → NetsChecked job file w w units units leg_counts leg_counts (said.Odd n)
+  pub odd_refused : {n : ℕ} → odd_row job (routes_in file) ≡ refused 24 n 0 → NetsChecked job file w w units units leg_counts leg_counts (Err (said.Odd n))
   odd_refused e = record { row_is = rw e; job_is = refl; work_is = rw e; units_is = rw e; counts_is = rw e }
 
   module _ (even : odd_row job (routes_in file) ≡ passes) {w' : Searching} (work : w' ≡ after_nets job (routes_in file) (nets job) w) where
     -- a net is refused: the results are kept
-    pub net_refused : {r : CheckAnswer} {n p s : ℕ} → nets_rows job (routes_in file) ≡ refused n p s → handed_check r ≡ judged no_nets (refused n p s)
-        → is_jobs r ≡ false → NetsChecked job file w w' units units leg_counts leg_counts r
-    net_refused e h j = record {
-      row_is = h ∙ rw (even, e);
-      job_is = j;
-      work_is = work ∙ rw even;
-      units_is = rw (even, e);
-      counts_is = rw (even, e);
-    }
+    pub net_refused : (why : CheckRefusal) → nets_rows job (routes_in file) ≡ check_refusal_row why → of_job why ≡ false
+        → NetsChecked job file w w' units units leg_counts leg_counts (Err why)
+    net_refused why e j =
+        let (n, p, s, r) = refuses why in
+        let f : nets_rows job (routes_in file) ≡ refused n p s = e ∙ r in
+        record { row_is = rw (r, even, f); job_is = j; work_is = work ∙ rw even; units_is = rw (even, f); counts_is = rw (even, f) }
 
     -- all are right: the results are written
     pub nets_right : nets_rows job (routes_in file) ≡ passes → {units' leg_counts' : List ℕ} → units' ≡ laid (units_of job (routes_in file)) units
-        → leg_counts' ≡ laid (legs_of job (routes_in file)) leg_counts → NetsChecked job file w w' units units' leg_counts leg_counts' (said.Right (nets job))
+        → leg_counts' ≡ laid (legs_of job (routes_in file)) leg_counts → NetsChecked job file w w' units units' leg_counts leg_counts' (Ok (nets job))
     nets_right e u l = record {
       row_is = rw (even, e);
       job_is = refl;

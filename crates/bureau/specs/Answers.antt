@@ -1,7 +1,7 @@
 -- What the check of the bureau's routes hands back, in the table's numbers, and what it leaves in the lent slices.
-use Rattle.std.specs.Prelude.{ℕ, zero, suc, ◌*◌, ◌≡◌, Bool, true, false, ◌||◌, List, [], ◌∷◌, ltb, length}
+use Rattle.std.specs.Prelude.{ℕ, zero, suc, ◌*◌, ◌≡◌, Bool, true, false, ◌||◌, List, [], ◌∷◌, ltb, length, Result, Ok, Err}
 use Rattle.board.specs.Board.{Board, vertices}
-use Rattle.board.specs.Handed.{Verdict, passes, refused, row, and_then, Handed, answer, unless, judged}
+use Rattle.board.specs.Handed.{Verdict, passes, refused, row, and_then, Handed, answer, unless, handed}
 use Rattle.records.specs.Records.{in_order}
 use Rattle.refusals.specs.Refusals as job-refusals
 use Rattle.kinds.specs.Job.{Net, nets, width, height, board_cells}
@@ -10,8 +10,8 @@ use Rattle.theta.specs.Search.{Problem, search}
 use Rattle.tracks.specs.Tracks.{Point, Route, routes_in}
 use Rattle.tracks.specs.Faults as route-faults
 use Rattle.tracks.specs.Answers.{laid}
-use Rattle.bureau.specs.declared.CheckAnswer.{CheckAnswer}
-use Rattle.bureau.specs.declared.CheckAnswer.TheVariants as said
+use Rattle.bureau.specs.declared.CheckRefusal.{CheckRefusal}
+use Rattle.bureau.specs.declared.CheckRefusal.TheVariants as said
 use Rattle.bureau.specs.Paths.{problem_of}
 use Rattle.bureau.specs.Nets.{job_board, job_net, points_for, odd_row, net_row, nets_rows, units_of, legs_of}
 
@@ -24,32 +24,38 @@ pub record Nets : Type 0 where
 abbrev pub no_nets : Nets
 no_nets = record { nets = 0 }
 
-abbrev pub handed_check : CheckAnswer → Handed Nets
-handed_check (said.Right n) = answer (record { nets = n })
-handed_check (said.Job why) = judged no_nets (job-refusals.refusal_row why)
-handed_check (said.Routes why) = judged no_nets (route-faults.refusal_row why)
-handed_check said.Board = judged no_nets (refused 19 0 0)
-handed_check said.Work = judged no_nets (refused 6 0 0)
-handed_check said.Results = judged no_nets (refused 21 0 0)
-handed_check (said.Odd net) = judged no_nets (refused 24 net 0)
-handed_check (said.End net) = judged no_nets (refused 25 net 0)
-handed_check (said.Off net place) = judged no_nets (refused 26 net place)
-handed_check (said.Leg net place) = judged no_nets (refused 27 net place)
-handed_check (said.Path net) = judged no_nets (refused 28 net 0)
+-- the row of each refusal
+abbrev pub check_refusal_row : CheckRefusal → Verdict
+check_refusal_row (said.Job why) = job-refusals.refusal_row why
+check_refusal_row (said.Routes why) = route-faults.refusal_row why
+check_refusal_row said.Board = refused 19 0 0
+check_refusal_row said.Work = refused 6 0 0
+check_refusal_row said.Results = refused 21 0 0
+check_refusal_row (said.Odd net) = refused 24 net 0
+check_refusal_row (said.End net) = refused 25 net 0
+check_refusal_row (said.Off net place) = refused 26 net place
+check_refusal_row (said.Leg net place) = refused 27 net place
+check_refusal_row (said.Path net) = refused 28 net 0
+
+abbrev pub handed_check : Result ℕ CheckRefusal → Handed Nets
+handed_check r = handed no_nets (λ (n : ℕ). record { nets = n }) check_refusal_row r
 
 -- the job is refused, not the file: the two share numbers
-abbrev pub is_jobs : CheckAnswer → Bool
-is_jobs (said.Right n) = false
-is_jobs (said.Job why) = true
-is_jobs (said.Routes why) = false
-is_jobs said.Board = false
-is_jobs said.Work = false
-is_jobs said.Results = false
-is_jobs (said.Odd net) = false
-is_jobs (said.End net) = false
-is_jobs (said.Off net place) = false
-is_jobs (said.Leg net place) = false
-is_jobs (said.Path net) = false
+abbrev pub of_job : CheckRefusal → Bool
+of_job (said.Job why) = true
+of_job (said.Routes why) = false
+of_job said.Board = false
+of_job said.Work = false
+of_job said.Results = false
+of_job (said.Odd net) = false
+of_job (said.End net) = false
+of_job (said.Off net place) = false
+of_job (said.Leg net place) = false
+of_job (said.Path net) = false
+
+abbrev pub is_jobs : {A : Type 0} → Result A CheckRefusal → Bool
+is_jobs (Ok a) = false
+is_jobs (Err why) = of_job why
 
 abbrev pub is_refused : Verdict → Bool
 is_refused passes = false
@@ -153,7 +159,7 @@ slices_after job file before =
     }
 
 -- what the check answers, and what the slices hold before and after it
-pub record Checked (job file : List ℕ) (before after : Slices) (r : CheckAnswer) : Type 0 where
+pub record Checked (job file : List ℕ) (before after : Slices) (r : Result ℕ CheckRefusal) : Type 0 where
   pub row_is : handed_check r ≡ check_row job file before
   pub job_is : is_jobs r ≡ is_refused (job_rows job)
   pub after_is : after ≡ slices_after job file before

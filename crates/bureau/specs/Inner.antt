@@ -1,27 +1,31 @@
 -- What the code of the check says inside. No public contract cites it, so nobody need believe this.
-use Rattle.std.specs.Prelude.{ℕ, suc, ◌+◌, ◌-◌, ◌≤◌, ◌<◌, ◌≡◌, ◌≢◌, Bool, true, false, List, eqb, length, set}
+use Rattle.std.specs.Prelude.{ℕ, suc, ◌+◌, ◌-◌, ◌≤◌, ◌<◌, ◌≡◌, ◌≢◌, true, false, cond, List, [], eqb, ltb, length, set, Option, Some, None, MatchOption, Result}
 use Rattle.laws.specs.Below.{first_where}
 use Rattle.board.specs.Limits.{largest_side}
 use Rattle.board.specs.Board.{Board, vertices}
 use Rattle.board.specs.Inner.{Sound, OnBoard}
-use Rattle.board.specs.Handed.{Verdict, passes, refused, and_then, answer, unless}
+use Rattle.board.specs.Handed.{Verdict, passes, refused, and_then, answer, unless, verdict}
 use Rattle.records.specs.Records.{records}
 use Rattle.kinds.specs.Job.{Net, nets, width, height, board_cells}
 use Rattle.faults.specs.Inner.{Accepted}
 use Rattle.tracks.specs.Faults.{file_rows}
 use Rattle.tracks.specs.Tracks.{Point, Route, is_point, net_of, place_of, point_of, routes_in}
-use Rattle.bureau.specs.declared.Wanted.{Wanted}
 use Rattle.bureau.specs.declared.Fault.{Fault}
 use Rattle.bureau.specs.declared.Fault.TheVariants as fault
-use Rattle.bureau.specs.declared.NetFault.{NetFault}
-use Rattle.bureau.specs.declared.CheckAnswer.{CheckAnswer}
+use Rattle.bureau.specs.declared.Point as given
+use Rattle.bureau.specs.declared.Points.{Points}
+use Rattle.bureau.specs.declared.CheckRefusal.{CheckRefusal}
 use Rattle.bureau.specs.Paths.{point_at, net_rows, units_along}
-use Rattle.bureau.specs.Nets.{odd_row, nets_rows, units_of, legs_of}
-use Rattle.bureau.specs.Answers.{no_nets, handed_check, is_jobs, Searching, laid_if, after_net, after_nets, work_if}
+use Rattle.bureau.specs.Nets.{points_for, odd_row, nets_rows, units_of, legs_of}
+use Rattle.bureau.specs.Answers.{no_nets, check_refusal_row, handed_check, is_jobs, Searching, laid_if, after_net, after_nets, work_if}
 
--- the net that is wanted, as the job's definitions have it
-abbrev pub net_for : Wanted → Net
-net_for w = record { number = w.number; sx = w.sx; sy = w.sy; gx = w.gx; gy = w.gy }
+-- the code's point, as the definitions of a path have it
+abbrev pub as_point : given.Point → Point
+as_point p = record { x = p.x; y = p.y }
+
+-- a place, where it lies before the end
+abbrev pub place_before : (place end : ℕ) → Option ℕ
+place_before place end = cond (ltb place end) (Some place) None
 
 -- the points of the records from one on
 abbrev pub record_points : List ℕ → (first : ℕ) → ℕ → Point
@@ -52,6 +56,18 @@ pub record LastOf (file : List ℕ) (first last : ℕ) : Type 0 where
   pub stretch : Stretch file first last
   pub ends : suc last < records file → net_of file (suc last) ≢ net_of file first
 
+-- a file gives these points for the net with this number
+pub record PointsOf (file : List ℕ) (number : ℕ) (p : Points) : Type 0 where
+  pub some : 0 < p.count
+  pub few : p.count ≤ 65536
+  pub within : p.first + p.count ≤ records file
+  pub length_is : length (points_for (routes_in file) number) ≡ p.count
+  pub point_is : (k : ℕ) → k < p.count → point_at (points_for (routes_in file) number) k ≡ record_points file p.first k
+
+-- the same, or it gives none
+abbrev pub PointsGiven : List ℕ → (number : ℕ) → Option Points → Type 0
+PointsGiven file number given = MatchOption given (points_for (routes_in file) number ≡ []) (PointsOf file number)
+
 -- the first n points are vertices of the board
 pub record PointsOn (b : Board) (n : ℕ) (p : ℕ → Point) : Type 0 where
   pub on : (k : ℕ) → k < n → OnBoard b (p k).x (p k).y
@@ -62,21 +78,10 @@ pub record PointsSmall (n : ℕ) (p : ℕ → Point) : Type 0 where
 
 -- the row of a fault of the net with this number
 abbrev pub fault_row : (number : ℕ) → Fault → Verdict
-fault_row number fault.Nothing = passes
 fault_row number fault.End = refused 25 number 0
 fault_row number (fault.Off place) = refused 26 number place
 fault_row number (fault.Leg place) = refused 27 number place
 fault_row number fault.Path = refused 28 number 0
-
-abbrev pub is_nothing : Fault → Bool
-is_nothing fault.Nothing = true
-is_nothing fault.End = false
-is_nothing (fault.Off place) = false
-is_nothing (fault.Leg place) = false
-is_nothing fault.Path = false
-
-abbrev pub faults_row : NetFault → Verdict
-faults_row f = fault_row f.net f.fault
 
 -- a board and work slices that a search may use
 pub record Room (b : Board) (w : Searching) : Type 0 where
@@ -101,12 +106,13 @@ pub record OnJob (job file cells : List ℕ) (wide high many : ℕ) : Type 0 whe
   pub many_is : many ≡ nets job
 
 -- a net has been judged, and all nets
-pub record NetJudged (b : Board) (net : Net) (ps : List Point) (w w' : Searching) (r : Fault) : Type 0 where
-  pub row_is : fault_row net.number r ≡ net_rows b net ps
+pub record NetJudged (b : Board) (net : Net) (ps : List Point) (w w' : Searching) (r : Result (Unit {0}) Fault) : Type 0 where
+  pub row_is : verdict (fault_row net.number) r ≡ net_rows b net ps
   pub work_is : w' ≡ after_net passes b net ps w
 
-pub record NetsJudged (job : List ℕ) (rs : List Route) (w w' : Searching) (r : NetFault) : Type 0 where
-  pub row_is : faults_row r ≡ nets_rows job rs
+pub record NetsJudged (job : List ℕ) (rs : List Route) (w w' : Searching) (r : Result (Unit {0}) CheckRefusal) : Type 0 where
+  pub row_is : verdict check_refusal_row r ≡ nets_rows job rs
+  pub job_is : is_jobs r ≡ false
   pub work_is : w' ≡ after_nets job rs (nets job) w
 
 -- an accepted job with so many nets, and a file that gives each of them rightly
@@ -122,7 +128,7 @@ pub record Measured (ps : List Point) (index : ℕ) (units leg_counts units' leg
   pub counts_are : leg_counts' ≡ set leg_counts index (length ps - 1)
 
 -- what is said of the nets, and what the slices hold, where the checks before them have passed
-pub record NetsChecked (job file : List ℕ) (w w' : Searching) (units units' leg_counts leg_counts' : List ℕ) (r : CheckAnswer) : Type 0 where
+pub record NetsChecked (job file : List ℕ) (w w' : Searching) (units units' leg_counts leg_counts' : List ℕ) (r : Result ℕ CheckRefusal) : Type 0 where
   pub row_is : handed_check r ≡ unless no_nets (and_then (odd_row job (routes_in file)) (nets_rows job (routes_in file))) (answer (record { nets = nets job }))
   pub job_is : is_jobs r ≡ false
   pub work_is : w' ≡ work_if (odd_row job (routes_in file)) job (routes_in file) w

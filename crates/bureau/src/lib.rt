@@ -2,17 +2,17 @@
 #![tactic(auto)]
 
 ghost use Rattle.std.specs.Prelude.{◌≡◌, false};
-ghost use Rattle.board.specs.Handed.{judged};
-ghost use Rattle.bureau.specs.Answers.{no_nets, handed_check, is_jobs};
-ghost use Rattle.bureau.specs.Inner.{is_nothing, fault_row};
+ghost use Rattle.bureau.specs.declared.CheckRefusal.TheVariants.{Job, Routes};
+ghost use Rattle.bureau.specs.Answers.{check_refusal_row, of_job};
+ghost use Rattle.bureau.specs.Inner.{fault_row};
 
+use board::{Numbered, Row};
 use refusals::JobRefusal;
 use tracks::RouteRefusal;
 
-// All routes are right, of so many nets; or why they are not. Net numbers and places stand as the file has them.
-#[derive(Clone, Copy)]
-pub enum CheckAnswer {
-    Right(usize),
+// Why routes are not right. Net numbers and places stand as the file has them.
+#[derive(Clone, Copy, PartialEq, Eq)]
+pub enum CheckRefusal {
     // The job's own refusals, then the file's.
     Job(JobRefusal),
     Routes(RouteRefusal),
@@ -32,20 +32,58 @@ pub enum CheckAnswer {
     Path(usize),
 }
 
-// A net as the job wants it: its number, its start (sx, sy) and its goal (gx, gy).
+impl From<JobRefusal> for CheckRefusal {
+    ghost from_gives = { λ why refusal. refusal ≡ Job why };
+
+    fn from(why: JobRefusal) -> CheckRefusal {
+        CheckRefusal::Job(why)
+    }
+}
+
+impl From<RouteRefusal> for CheckRefusal {
+    ghost from_gives = { λ why refusal. refusal ≡ Routes why };
+
+    fn from(why: RouteRefusal) -> CheckRefusal {
+        CheckRefusal::Routes(why)
+    }
+}
+
+impl Numbered for CheckRefusal {
+    ghost row = { check_refusal_row };
+
+    fn row(self) -> Row {
+        match self {
+            CheckRefusal::Job(why) => why.row(),
+            CheckRefusal::Routes(why) => why.row(),
+            CheckRefusal::Board => Row::of(19),
+            CheckRefusal::Work => Row::of(6),
+            CheckRefusal::Results => Row::of(21),
+            CheckRefusal::Odd(net) => Row::at(24, net),
+            CheckRefusal::End(net) => Row::at(25, net),
+            CheckRefusal::Off { net, place } => Row::at_both(26, net, place),
+            CheckRefusal::Leg { net, place } => Row::at_both(27, net, place),
+            CheckRefusal::Path(net) => Row::at(28, net),
+        }
+    }
+}
+
+// A point of a path, told by its coordinates and never by a vertex number.
+#[derive(Clone, Copy, PartialEq, Eq)]
+pub struct Point {
+    pub x: usize,
+    pub y: usize,
+}
+
+// Where the points of a net stand in a route file: so many records, from the first on.
 #[derive(Clone, Copy)]
-pub struct Wanted {
-    pub number: usize,
-    pub sx: usize,
-    pub sy: usize,
-    pub gx: usize,
-    pub gy: usize,
+pub struct Points {
+    pub first: usize,
+    pub count: usize,
 }
 
 // What is wrong with what the bureau gives for a net: 25 to 28, with the place in the path.
-#[derive(Clone, Copy)]
+#[derive(Clone, Copy, PartialEq, Eq)]
 pub enum Fault {
-    Nothing,
     End,
     Off(usize),
     Leg(usize),
@@ -53,36 +91,16 @@ pub enum Fault {
 }
 
 impl Fault {
-    // Whether nothing is wrong.
-    pub fn is_nothing(self) -> bool
-        ensures { result ≡ is_nothing self }
+    // Why the routes are refused where the net with this number has the fault.
+    pub fn of(self, net: usize) -> CheckRefusal
+        ensures row { check_refusal_row result ≡ fault_row net self }
+        ensures not_the_jobs { of_job result ≡ false }
     {
         match self {
-            Fault::Nothing => true,
-            Fault::End => false,
-            Fault::Off(_) => false,
-            Fault::Leg(_) => false,
-            Fault::Path => false,
+            Fault::End => CheckRefusal::End(net),
+            Fault::Off(place) => CheckRefusal::Off { net, place },
+            Fault::Leg(place) => CheckRefusal::Leg { net, place },
+            Fault::Path => CheckRefusal::Path(net),
         }
     }
-
-    // What is answered for a fault of the net with this number.
-    pub fn answer(self, net: usize) -> CheckAnswer
-        ensures { (handed_check result ≡ judged no_nets (fault_row net self)) × (is_jobs result ≡ false) }
-    {
-        match self {
-            Fault::Nothing => CheckAnswer::Right(0),
-            Fault::End => CheckAnswer::End(net),
-            Fault::Off(place) => CheckAnswer::Off { net, place },
-            Fault::Leg(place) => CheckAnswer::Leg { net, place },
-            Fault::Path => CheckAnswer::Path(net),
-        }
-    }
-}
-
-// The first net with a fault.
-#[derive(Clone, Copy)]
-pub struct NetFault {
-    pub net: usize,
-    pub fault: Fault,
 }

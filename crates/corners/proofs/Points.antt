@@ -1,15 +1,16 @@
 -- A path's vertices as points: which are off every board, what the call answers, and that a point is its vertex. Assumes nothing.
-use Prim.Native.Nat.{ℕ, ◌+◌, ◌*◌, ◌≤◌, ◌<◌}
-use mathlib.Core.Path.{◌≡◌, sym, ap, ◌∙◌}
+use Prim.Native.Nat.{ℕ, zero, suc, ◌+◌, ◌*◌, ◌≤◌, ◌<◌}
+use mathlib.Core.Path.{◌≡◌, refl, sym, ap, ◌∙◌}
 use mathlib.Core.Bool.{Bool, true, false, ◌||◌}
-use mathlib.Core.List.{List, ◌++◌}
+use mathlib.Core.List.{List, [], ◌∷◌, ◌++◌}
 use native.Mathlib.Omega.{arith}
 use lib.Dec.{ltb}
 use lib.ListN.{length, get_or, drop}
-use borrow.Author.Tests.{ltb-false, lt-ltb, le-ltb}
-use Rattle.laws.specs.Below.{first_where}
-use Rattle.laws.proofs.Tests.{or_neither}
-use Rattle.laws.proofs.Below.{none_more, first_here, first_before, some_first, some_none}
+use borrow.Author.Tests.{ltb-false, le-ltb}
+use Rattle.std.specs.List.{list_any}
+use Rattle.laws.specs.Below.{some, first_where}
+use Rattle.laws.proofs.Tests.{or_neither, or_false}
+use Rattle.laws.proofs.Below.{first_before, some_first, some_none}
 use Rattle.board.specs.Limits.{largest_side}
 use Rattle.board.specs.Board.{number_of, column_of, row_of}
 use Rattle.board.specs.Handed.{Verdict, passes, refused, side_fits}
@@ -18,29 +19,27 @@ use Rattle.packed.specs.Answers.{slice_after}
 use Rattle.bits.proofs.Entries.{entries_length, entries_at}
 use Rattle.corners.specs.Corners.{columns, rows, has_off, point_rows, PointsTold}
 
+-- ---- some entry of a list passes: as the library's search finds it, and by index
+
+or_then : (a b c : Bool) → ((a || b) || c) ≡ (a || (b || c))
+or_then true b c = refl
+or_then false b c = refl
+
+some_front : (n : ℕ) (t : ℕ → Bool) → some (suc n) t ≡ (t 0 || some n (λ (k : ℕ). t (suc k)))
+unfolding some
+some_front zero t = sym (or_false (t 0))
+some_front (suc n) t = ap (λ (b : Bool). b || t (suc n)) (some_front n t) ∙ or_then (t 0) (some n (λ (k : ℕ). t (suc k))) (t (suc n))
+
+pub some_is : (t : ℕ → Bool) (xs : List ℕ) → list_any t xs ≡ some (length xs) (λ (k : ℕ). t (get_or xs k 0))
+unfolding some
+some_is t [] = refl
+some_is t (x ∷ xs) = ap (λ (b : Bool). t x || b) (some_is t xs) ∙ sym (some_front (length xs) (λ (k : ℕ). t (get_or (x ∷ xs) k 0)))
+
 module _ (path : List ℕ) (width : ℕ) where
   -- ---- a vertex off every board
 
   abbrev pub is_off : ℕ → Bool
   is_off k = ltb largest_side (row_of width (get_or path k 0))
-
-  -- none before vertex k
-  abbrev pub OnBefore : ℕ → Type 0
-  OnBefore k = first_where k is_off ≡ k
-
-  module _ (k : ℕ) (e : OnBefore k) where
-    pub off_here : largest_side < row_of width (get_or path k 0) → k < length path → has_off path width ≡ true
-    unfolding has_off
-    off_here h l =
-        some_first is_off (length path)
-        ∙ rw (first_here is_off k e (lt-ltb largest_side (row_of width (get_or path k 0)) h) (length path) l) (lt-ltb k (length path) l)
-
-    pub on_next : row_of width (get_or path k 0) ≤ largest_side → OnBefore (k + 1)
-    on_next h = none_more is_off k e (le-ltb largest_side (row_of width (get_or path k 0)) h)
-
-  pub none_off : OnBefore (length path) → has_off path width ≡ false
-  unfolding has_off
-  none_off e = some_first is_off (length path) ∙ rw e (le-ltb (length path) (length path) (omega arith))
 
   pub is_on_lem : has_off path width ≡ false → (k : ℕ) → k < length path → row_of width (get_or path k 0) ≤ largest_side
   unfolding has_off

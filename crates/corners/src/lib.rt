@@ -3,18 +3,29 @@
 
 ghost use Rattle.std.specs.Prelude.{◌≡◌, false, ◌++◌, ◌≤◌, length, drop};
 ghost use Rattle.board.specs.Limits.{largest_side};
-ghost use Rattle.corners.specs.Corners.{columns, rows, has_off, said_points, PointsTold};
+ghost use Rattle.corners.specs.Corners.{columns, rows, has_off, points_refusal_row, said_points, PointsTold};
 
 use board::inner::{column_of, row_of, side_fits};
-use board::{SIDE, Vertex};
+use board::{Numbered, Row, SIDE, Vertex};
 
-// What is answered: done, or 1, 4, or 21.
-#[derive(Clone, Copy)]
-pub enum PointsAnswer {
-    Points,
+// Why no points are told: 1, 4 for a vertex off every board, or 21 for a slice that is shorter than the path.
+#[derive(Clone, Copy, PartialEq, Eq)]
+pub enum PointsRefusal {
     Side,
     Off,
     Short,
+}
+
+impl Numbered for PointsRefusal {
+    ghost row = { points_refusal_row };
+
+    fn row(self) -> Row {
+        match self {
+            PointsRefusal::Side => Row::of(1),
+            PointsRefusal::Off => Row::of(4),
+            PointsRefusal::Short => Row::of(21),
+        }
+    }
 }
 
 // Whether a vertex lies below every board of this width.
@@ -22,12 +33,7 @@ fn has_off(path: &[Vertex], width: usize) -> bool
     requires { width ≤ largest_side }
     ensures { result ≡ has_off path.now width }
 {
-    for k in 0..path.len() {
-        if SIDE < row_of(width, path[k]) {
-            return true;
-        }
-    }
-    false
+    path.iter().any(|vertex| SIDE < row_of(width, *vertex))
 }
 
 // The x and y of each vertex.
@@ -36,25 +42,30 @@ fn tell_points(path: &[Vertex], width: usize, xs: &mut [u8], ys: &mut [u8])
     requires path_in_bounds { (length path.now ≤ length xs.old) × (length path.now ≤ length ys.old) }
     ensures { (xs.new ≡ columns path.now width ++ drop (length path.now) xs.old) × (ys.new ≡ rows path.now width ++ drop (length path.now) ys.old) }
 {
-    for k in 0..path.len() {
-        xs[k] = column_of(width, path[k]) as u8;
-        ys[k] = row_of(width, path[k]) as u8;
+    for (k, vertex) in path.iter().enumerate() {
+        xs[k] = column_of(width, *vertex) as u8;
+        ys[k] = row_of(width, *vertex) as u8;
     }
 }
 
 // Writes the x and y of a path's vertices on a board of this width into the lent slices.
-pub fn path_points(path: &[Vertex], width: usize, xs: &mut [u8], ys: &mut [u8]) -> PointsAnswer
+pub fn path_points(
+    path: &[Vertex],
+    width: usize,
+    xs: &mut [u8],
+    ys: &mut [u8],
+) -> Result<(), PointsRefusal>
     ensures { PointsTold path.now width xs.old ys.old (said_points result) xs.new ys.new }
 {
     if !side_fits(width) {
-        return PointsAnswer::Side;
+        return Err(PointsRefusal::Side);
     }
     if has_off(path, width) {
-        return PointsAnswer::Off;
+        return Err(PointsRefusal::Off);
     }
     if (xs.len() < path.len()) | (ys.len() < path.len()) {
-        return PointsAnswer::Short;
+        return Err(PointsRefusal::Short);
     }
     tell_points(path, width, xs, ys);
-    PointsAnswer::Points
+    Ok(())
 }

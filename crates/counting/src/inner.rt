@@ -1,41 +1,40 @@
 // The call for the crate above: the count of blocked cells, for C.
 ghost use Rattle.std.specs.Prelude.{◌≡◌};
-ghost use Rattle.board.specs.Handed.{refused, judged};
-ghost use Rattle.packed.specs.Answers.{no_count, handed_count, count_row};
+ghost use Rattle.packed.specs.Answers.{handed_count, count_row};
 ghost use Rattle.counting.specs.Counting.{told_count};
 
 use crate::Counted;
-use packed::{CountAnswer, count_blocked};
+use board::Numbered;
+use packed::{PackedRefusal, count_blocked};
+
+// What C gets of a count.
+impl From<Result<usize, PackedRefusal>> for Counted {
+    ghost from_gives = { λ answer counted. counted ≡ told_count (handed_count answer) };
+
+    fn from(answer: Result<usize, PackedRefusal>) -> Counted {
+        match answer {
+            Ok(blocked) => Counted {
+                number: 0,
+                place: 0,
+                second: 0,
+                blocked: blocked as u64,
+            },
+            Err(why) => {
+                let row = why.row();
+                Counted {
+                    number: row.number,
+                    place: row.place as u64,
+                    second: row.second as u64,
+                    blocked: 0,
+                }
+            }
+        }
+    }
+}
 
 // How many cells of packed bytes are blocked.
 pub fn count_packed_for_c(packed: &[u8], width: usize, height: usize) -> Counted
     ensures { result ≡ told_count (count_row packed.now width height) }
 {
-    tell_count(count_blocked(packed, width, height))
-}
-
-// What C gets of a count.
-fn tell_count(answer: CountAnswer) -> Counted
-    ensures { result ≡ told_count (handed_count answer) }
-{
-    match answer {
-        CountAnswer::Blocked(n) => Counted {
-            number: 0,
-            place: 0,
-            second: 0,
-            blocked: n as u64,
-        },
-        CountAnswer::Refused(why) => refuse_count(why.number(), why.place() as u64),
-    }
-}
-
-fn refuse_count(number: u64, place: u64) -> Counted
-    ensures { result ≡ told_count (judged no_count (refused number place 0)) }
-{
-    Counted {
-        number,
-        place,
-        second: 0,
-        blocked: 0,
-    }
+    count_blocked(packed, width, height).into()
 }

@@ -10,12 +10,11 @@ use lib.Dec.{eqb}
 use lib.Ieee.{fin}
 use Rattle.board.specs.Handed.{row, answer, unless}
 use Rattle.length.specs.Units.{square, units}
-use Rattle.spans.specs.Legs.{step, difference_rows, vertex_rows}
+use Rattle.spans.specs.Legs.{step}
 use Rattle.direction.specs.Answers.{quotient, no_direction, direction_of, aim_row, direction_row, direction_between_row}
 use Rattle.direction.specs.Directions.{Directed}
 use Rattle.length.proofs.Units.{units_level, units_upright, units_width, units_height, units_positive, different}
 use Rattle.direction.proofs.Floats.{quotient_zero, quotient_axis, quotient_most}
-use Rattle.direction.proofs.Answers.{given}
 use Rattle.spans.proofs.Legs.{no_zero, differences_given, vertices_given}
 
 -- a size whose square is not 0
@@ -65,7 +64,7 @@ aimed dx dy = go (eqb (nat_abs dx) 0 && eqb (nat_abs dy) 0) refl
 pub directions : (dx dy : ℤ) → (direction_row dx dy).number ≡ 0 → Directed dx dy (direction_row dx dy).values
 unfolding direction_row
 directions dx dy e =
-    let v = differences_given dx dy (given no_direction (aim_row dx dy) (difference_rows dx dy) e) in
+    let v = differences_given dx dy no_direction (aim_row dx dy) e in
     rw v (aimed dx dy (rw v at e))
 
 -- of `Direction::between`
@@ -73,5 +72,5 @@ pub directions_between : (ax ay bx by : ℕ) → (direction_between_row ax ay bx
     → Directed (step ax bx) (step ay by) (direction_between_row ax ay bx by).values
 unfolding direction_between_row
 directions_between ax ay bx by e =
-    let v = vertices_given ax ay bx by (given no_direction (aim_row (step ax bx) (step ay by)) (vertex_rows ax ay bx by) e) in
+    let v = vertices_given ax ay bx by no_direction (aim_row (step ax bx) (step ay by)) e in
     rw v (aimed (step ax bx) (step ay by) (rw v at e))

@@ -2,14 +2,17 @@
 use mathlib.Core.Path.{◌≡◌, refl, sym, ap, ◌∙◌, subst}
 use mathlib.Core.Bool.{Bool, true, false, cond}
 use Prim.Native.Nat.{ℕ, zero, suc, ◌+◌, ◌*◌, ◌^◌, ◌≤◌, ◌<◌}
+use native.Mathlib.Omega.{arith}
 use native.Mathlib.Nat.{mul_comm, mul-pos, le_trans, le_of_eq, mul-one, one-mul, zero-mul}
 use lib.IntN.{ℤ, pos, nat_abs}
 use lib.Signed.{lt_z}
 use lib.Dec.{T, lit<, ltb}
-use lib.Ieee.{Float, nan, inf, fin, Format, binary64, prec, emax, low, round, neg, le, units, odd}
+use lib.Ieee.{Float, nan, inf, fin, Format, binary64, prec, emax, low, round, neg, le, units, odd, div, of_int}
 use lib.Ieee.Scale.{round_same}
 use lib.Ieee.Order.{round_mono}
+use Rattle.board.specs.Limits.{largest_side}
 use Rattle.length.specs.Units.{units_per_cell}
+use Rattle.length.proofs.Floats.{divided}
 use Rattle.direction.specs.Answers.{quotient}
 use Rattle.direction.specs.Directions.{magnitude}
 
@@ -31,6 +34,19 @@ negated f (suc q) k = go (ltb (suc q * 2 ^ k) (2 ^ (low f + suc (emax f))))
 pub round_neg : (f : Format) (a b : ℕ) → neg (round f false a b) ≡ round f true a b
 unfolding round
 round_neg f a b = negated f _ _
+
+-- the machine's division of two whole numbers, with the sign set after it, is the quotient
+module _ (d : ℤ) {n u : ℕ} (e : n ≡ nat_abs d) (small : nat_abs d ≤ largest_side) (U : 0 < u) (V : u < 2 ^ 53) where
+  rounded : div binary64 (of_int binary64 (pos (n * units_per_cell))) (of_int binary64 (pos u)) ≡ round binary64 false (nat_abs d * units_per_cell) u
+  rounded = rw e (divided (nat_abs d * units_per_cell) u (omega arith) U V)
+
+  pub divided_below : lt_z d (pos 0) ≡ true → neg (div binary64 (of_int binary64 (pos (n * units_per_cell))) (of_int binary64 (pos u))) ≡ quotient d u
+  unfolding quotient
+  divided_below h = rw h (ap neg rounded ∙ round_neg binary64 (nat_abs d * units_per_cell) u)
+
+  pub divided_above : lt_z d (pos 0) ≡ false → div binary64 (of_int binary64 (pos (n * units_per_cell))) (of_int binary64 (pos u)) ≡ quotient d u
+  unfolding quotient
+  divided_above h = rw h rounded
 
 -- ---- what a direction is
 

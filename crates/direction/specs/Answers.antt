@@ -1,13 +1,14 @@
 -- A leg's direction, and what the calls of this crate hand back, in document 01's numbers.
-use Rattle.std.specs.Prelude.{ℕ, ◌*◌, ◌&&◌, ℤ, pos, nat_abs, eqb, Float}
+use Rattle.std.specs.Prelude.{ℕ, ◌*◌, ◌&&◌, ℤ, pos, nat_abs, eqb, Float, Result}
 use Rattle.std.specs.Int.Signed.{lt_z}
 use Rattle.std.specs.Float.{binary64}
 use Rattle.std.specs.Float.Ieee.{round}
-use Rattle.board.specs.Handed.{Handed, row, answer, unless, judged, plus_zero, refused, refusal_row}
+use Rattle.board.specs.Handed.{Verdict, Handed, row, answer, unless, handed, plus_zero, refused, refusal_row}
 use Rattle.spans.specs.Legs.{step, difference_rows, vertex_rows}
 use Rattle.length.specs.Units.{units_per_cell, units}
-use Rattle.direction.specs.declared.Aimed.{Aimed}
-use Rattle.direction.specs.declared.Aimed.TheVariants as aimed
+use Rattle.direction.specs.declared.Direction.{Direction}
+use Rattle.direction.specs.declared.DirectionRefusal.{DirectionRefusal}
+use Rattle.direction.specs.declared.DirectionRefusal.TheVariants.{Leg, Equal}
 
 -- d × 2^20 / u, with the sign of d, rounded once
 unfoldable pub quotient : (d : ℤ) → (u : ℕ) → Float
@@ -36,8 +37,12 @@ direction_row dx dy = unless no_direction (difference_rows dx dy) (aim_row dx dy
 unfoldable pub direction_between_row : (ax ay bx by : ℕ) → Handed Toward
 direction_between_row ax ay bx by = unless no_direction (vertex_rows ax ay bx by) (aim_row (step ax bx) (step ay by))
 
--- the code's answers
-abbrev pub handed_direction : Aimed → Handed Toward
-handed_direction (aimed.Of d) = answer (record { x = d.x; y = d.y })
-handed_direction (aimed.Refused why) = judged no_direction (refusal_row why)
-handed_direction aimed.Equal = judged no_direction (refused 9 0 0)
+-- ---- the code's answers
+
+-- the row of each refusal
+abbrev pub direction_refusal_row : DirectionRefusal → Verdict
+direction_refusal_row (Leg why) = refusal_row why
+direction_refusal_row Equal = refused 9 0 0
+
+abbrev pub handed_direction : Result Direction DirectionRefusal → Handed Toward
+handed_direction = handed no_direction (λ d. record { x = d.x; y = d.y }) direction_refusal_row

@@ -1,15 +1,14 @@
 // The direction of a leg: its two differences over its length.
 #![tactic(auto)]
 
-ghost use Rattle.std.specs.Prelude.{◌≡◌, ◌^◌, ◌≤◌, ◌<◌, nat_abs};
+ghost use Rattle.std.specs.Prelude.{◌≡◌, ◌^◌, ◌≤◌, ◌<◌, ◌&&◌, nat_abs, eqb};
 ghost use Rattle.board.specs.Limits.{largest_side};
-ghost use Rattle.direction.specs.Answers.{quotient, handed_direction, aim_row, direction_row, direction_between_row};
+ghost use Rattle.direction.specs.Answers.{quotient, direction_refusal_row, handed_direction, aim_row, direction_row, direction_between_row};
+ghost use Rattle.direction.specs.declared.DirectionRefusal.TheVariants.{Leg};
 
-use board::{Checked, Refusal};
+use board::{Numbered, Refusal, Row};
 use length::Length;
-use length::inner::units_of;
-use spans::inner::{difference, size_of};
-use spans::{check_differences, check_vertices};
+use spans::Span;
 
 // The two parts of a leg's direction.
 #[derive(Clone, Copy)]
@@ -18,12 +17,30 @@ pub struct Direction {
     pub y: f64,
 }
 
-// A leg's direction, or the row that refuses it: 4, 5, or 9 for equal ends.
-#[derive(Clone, Copy)]
-pub enum Aimed {
-    Of(Direction),
-    Refused(Refusal),
+// Why a leg has no direction: 4 or 5, or 9 for equal ends.
+#[derive(Clone, Copy, PartialEq, Eq)]
+pub enum DirectionRefusal {
+    Leg(Refusal),
     Equal,
+}
+
+impl Numbered for DirectionRefusal {
+    ghost row = { direction_refusal_row };
+
+    fn row(self) -> Row {
+        match self {
+            DirectionRefusal::Leg(why) => why.row(),
+            DirectionRefusal::Equal => Row::of(9),
+        }
+    }
+}
+
+impl From<Refusal> for DirectionRefusal {
+    ghost from_gives = { λ why refusal. refusal ≡ Leg why };
+
+    fn from(why: Refusal) -> DirectionRefusal {
+        DirectionRefusal::Leg(why)
+    }
 }
 
 // A difference of d cells over u units: one rounded division, and then the sign.
@@ -31,42 +48,47 @@ fn ratio(d: i32, u: u64) -> f64
     requires { (nat_abs d ≤ largest_side) × (0 < u) × (u < 2 ^ 53) }
     ensures { result ≡ quotient d u }
 {
-    let q = (size_of(d) * Length::UNITS_PER_CELL) as f64 / u as f64;
+    let q = (u64::from(d.unsigned_abs()) * Length::UNITS_PER_CELL) as f64 / u as f64;
     if d < 0 { -q } else { q }
 }
 
-// The direction of a leg by differences that passed the checks, or 9.
-fn aim(dx: i32, dy: i32) -> Aimed
-    requires { (nat_abs dx ≤ largest_side) × (nat_abs dy ≤ largest_side) }
-    ensures { handed_direction result ≡ aim_row dx dy }
+// Whether a leg has equal ends, and so no direction.
+fn has_equal_ends(span: Span) -> bool
+    ensures { result ≡ (eqb (nat_abs span.dx) 0 && eqb (nat_abs span.dy) 0) }
 {
-    if (dx == 0) & (dy == 0) {
-        return Aimed::Equal;
+    span.dx == 0 && span.dy == 0
+}
+
+// The direction of a leg whose differences passed the checks, or 9.
+fn aim(span: Span) -> Result<Direction, DirectionRefusal>
+    ensures { handed_direction result ≡ aim_row span.dx span.dy }
+{
+    if has_equal_ends(span) {
+        return Err(DirectionRefusal::Equal);
     }
-    let u = units_of(dx, dy);
-    let x = ratio(dx, u);
-    let y = ratio(dy, u);
-    Aimed::Of(Direction { x, y })
+    let u = Length::from(span).units;
+    let x = ratio(span.dx, u);
+    let y = ratio(span.dy, u);
+    Ok(Direction { x, y })
 }
 
 impl Direction {
     // The direction of a leg by its differences.
-    pub fn of(dx: i32, dy: i32) -> Aimed
+    pub fn of(dx: i32, dy: i32) -> Result<Direction, DirectionRefusal>
         ensures { handed_direction result ≡ direction_row dx dy }
     {
-        match check_differences(dx, dy) {
-            Checked::Accepted => aim(dx, dy),
-            Checked::Refused(why) => Aimed::Refused(why),
-        }
+        aim(Span::of(dx, dy)?)
     }
 
     // The direction of a leg by its vertices.
-    pub fn between(ax: usize, ay: usize, bx: usize, by: usize) -> Aimed
+    pub fn between(
+        ax: usize,
+        ay: usize,
+        bx: usize,
+        by: usize,
+    ) -> Result<Direction, DirectionRefusal>
         ensures { handed_direction result ≡ direction_between_row ax ay bx by }
     {
-        match check_vertices(ax, ay, bx, by) {
-            Checked::Accepted => aim(difference(ax, bx), difference(ay, by)),
-            Checked::Refused(why) => Aimed::Refused(why),
-        }
+        aim(Span::between(ax, ay, bx, by)?)
     }
 }

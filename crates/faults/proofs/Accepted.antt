@@ -15,6 +15,9 @@ use Rattle.records.proofs.Stray.{unused_passes}
 use Rattle.records.proofs.InOrder.{each_passes}
 use Rattle.kinds.specs.declared.Record.{Record}
 use Rattle.kinds.specs.declared.Record.TheVariants.{Keepout}
+use Rattle.kinds.specs.declared.RecordFault.{RecordFault}
+use Rattle.kinds.specs.declared.Rectangle.{Rectangle}
+use Rattle.std.specs.Prelude.{Result, Ok}
 use Rattle.kinds.specs.Job.{longest_job, is_board, is_keepout, is_net, is_unknown, used_by, width, height, left, top, right}
 use Rattle.kinds.specs.Job.{bottom, net_at}
 use Rattle.faults.specs.Faults.{is_misplaced, is_late, is_oversized, is_bad_keepout, is_unordered, is_on, is_end_off}
@@ -93,16 +96,17 @@ module _ {job : List ℕ} (a : Accepted job) where
           leb-true (bottom job i) (height job) (and_right (leb (right job i) (width job)) _ lies),
         )
 
-  pub keepout_on : {i left top right bottom : ℕ} → i < records job → Says job i (Keepout left top right bottom)
-      → (left < right) × (top < bottom) × (right ≤ width job) × (bottom ≤ height job)
+  pub keepout_on : {i : ℕ} {r : Rectangle} → i < records job → Says job i (Ok (Keepout r))
+      → (r.left < r.right) × (r.top < r.bottom) × (r.right ≤ width job) × (r.bottom ≤ height job)
   keepout_on {i} l (keepout e t) = keepout_below i l (rw t)
 
   -- one that says no keepout is none
-  pub no_keepout : (i : ℕ) → i < records job → {r : Record} → Says job i r → ((x y x2 y2 : ℕ) → r ≡ Keepout x y x2 y2 → ⊥) → is_keepout job i ≡ false
+  pub no_keepout : (i : ℕ) → i < records job → {said : Result Record RecordFault} → Says job i said → ((r : Rectangle) → said ≡ Ok (Keepout r) → ⊥)
+      → is_keepout job i ≡ false
   no_keepout i l (unknown u) k = absurd (true≢false (sym u ∙ is_known i l))
   no_keepout i l (unused u e) k = absurd (true≢false (sym e ∙ is_tidy i l))
   no_keepout i l (board e t) k = rw t
-  no_keepout i l (keepout e t) k = absurd (k _ _ _ _ refl)
+  no_keepout i l (keepout e t) k = absurd (k _ refl)
   no_keepout i l (net e t) k = rw t
 
   -- ---- a net

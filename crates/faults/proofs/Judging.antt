@@ -2,14 +2,13 @@
 use Prim.Native.Nat.{ℕ, zero, suc, ◌+◌, ◌%◌, ◌≤◌, ◌<◌}
 use mathlib.Core.Path.{◌≡◌, refl, ap, ◌∙◌}
 use mathlib.Core.Bool.{Bool, true, false, not, ◌&&◌}
-use mathlib.Core.List.{List, [], ◌∷◌}
+use mathlib.Core.List.{List}
 use native.Mathlib.Omega.{arith}
 use native.Mathlib.Numerals.{add-one}
-use types.Run.{OneOf, miss}
-use denote.Enum.Declared.{tag_of}
 use lib.Dec.{leb, ltb, eqb, eqb-suc-zero}
 use lib.ListN.{length}
 use borrow.Author.Tests.{le-ltb, eq-eqb, ne_eqb}
+use Rattle.std.specs.Prelude.{Ok, Err}
 use Rattle.laws.specs.Below.{how_many}
 use Rattle.laws.proofs.Below.{many_le, some_many}
 use Rattle.board.specs.Handed.{Verdict, passes, refused, row, and_then, Handed, answer, judged, side_fits}
@@ -18,18 +17,18 @@ use Rattle.records.specs.Records.{record_bytes, records, byte, in_order, unused_
 use Rattle.records.proofs.Stray.{unused_within}
 use Rattle.records.proofs.InOrder.{first_refused, order_within}
 use Rattle.refusals.specs.declared.JobRefusal.{JobRefusal}
-use Rattle.kinds.specs.declared.Record.TheVariants.{Board, Keepout, Net, Unknown, Unused}
+use Rattle.kinds.specs.declared.Record.TheVariants.{Board, Keepout, Net}
+use Rattle.kinds.specs.declared.RecordFault.TheVariants.{Unknown, Unused}
+use Rattle.kinds.specs.declared.Rectangle.{Rectangle}
+use Rattle.kinds.specs.declared.Net as given
 use Rattle.steps.specs.declared.Progress.{Progress}
-use Rattle.steps.specs.declared.Step.{Step}
-use Rattle.steps.specs.declared.Step.TheVariants.{Next, Refused}
-use Rattle.steps.specs.contracts.Step.{the_type}
 use Rattle.kinds.specs.Job.{longest_job, is_net, is_unknown, used_by, coordinate, width, height, left}
 use Rattle.kinds.specs.Job.{top, right, bottom, net_at}
 use Rattle.refusals.specs.Refusals.{refusal_row}
 use Rattle.faults.specs.Faults.{is_misplaced, is_late, is_oversized, is_bad_keepout, net_before, is_unordered}
 use Rattle.faults.specs.Faults.{is_end_off, record_rows, job_rows}
 use Rattle.faults.specs.Inner.{Accepted, progress, record_step, job_step}
-use Rattle.steps.specs.Steps.{nothing, handed_step, why_of, board_step, keepout_step, net_step}
+use Rattle.steps.specs.Steps.{nothing, handed_step, board_step, keepout_step, net_step}
 use Rattle.kinds.proofs.Says.{is_untidy, Says, unknown, unused, board, keepout, net}
 use Rattle.refusals.proofs.Refusing.{Numbered, answered, refuses, listed}
 
@@ -69,22 +68,22 @@ module _ (job : List ℕ) where
 -- ---- the same by what the record says
 
 module _ (job : List ℕ) (i : ℕ) where
-  pub row_unknown : Says job i Unknown → record_step job i ≡ judged nothing (refused 13 i 0)
+  pub row_unknown : Says job i (Err Unknown) → record_step job i ≡ judged nothing (refused 13 i 0)
   unfolding record_step record_rows
   row_unknown (unknown u) = rw u
 
-  pub row_unused : {k : ℕ} → Says job i (Unused k) → record_step job i ≡ judged nothing (refused 23 i k)
+  pub row_unused : {k : ℕ} → Says job i (Err (Unused k)) → record_step job i ≡ judged nothing (refused 23 i k)
   unfolding record_step record_rows
   row_unused (unused u e) = rw (u, e)
 
-  pub row_board : {w h : ℕ} → Says job i (Board w h) → record_step job i ≡ board_step i w h
+  pub row_board : {w h : ℕ} → Says job i (Ok (Board w h)) → record_step job i ≡ board_step i w h
   row_board (board e t) = board_at job i e t
 
   module _ {p : Progress} (known : p ≡ progress job i) where
-    pub row_keepout : {a b c d : ℕ} → Says job i (Keepout a b c d) → record_step job i ≡ keepout_step p i a b c d
+    pub row_keepout : {r : Rectangle} → Says job i (Ok (Keepout r)) → record_step job i ≡ keepout_step p i r.left r.top r.right r.bottom
     row_keepout (keepout e t) = rw known (keepout_at job i e t)
 
-    pub row_net : {n a b c d : ℕ} → Says job i (Net n a b c d) → record_step job i ≡ net_step p i n a b c d
+    pub row_net : {n : given.Net} → Says job i (Ok (Net n)) → record_step job i ≡ net_step p i n.number n.sx n.sy n.gx n.gy
     row_net (net e t) = rw known (net_at_lem job i e t)
 
     -- there are no more nets than records
@@ -134,11 +133,10 @@ module _ (job : List ℕ) where
         let n : records job ≡ 0 → ⊥ = λ z. omega arith in
         rw (le-ltb longest_job (length job) short, eq-eqb (length job % record_bytes) 0 whole, ne_eqb (records job) 0 n)
 
-    pub stops : (i : ℕ) → i < records job → in_order i (record_rows job) ≡ passes
-        → (s : Step) → OneOf (1 ∷ []) (tag_of the_type s) → handed_step s ≡ record_step job i → handed_step s ≡ job_step job
+    pub stops : (i : ℕ) → i < records job → in_order i (record_rows job) ≡ passes → (why : JobRefusal)
+        → handed_step (Err why) ≡ record_step job i → handed_step (Err why) ≡ job_step job
     unfolding record_step job_step
-    stops i l before (Next p) k e = absurd (miss (1 ∷ []) 0 tt k)
-    stops i l before (Refused why) k e =
+    stops i l before why e =
         let row_is = (listed why).row_is in
         let this = refuses nothing (record_rows job i) why _ e ∙ row_is in
         rw (by_records, first_refused (record_rows job) i before this (records job) l, row_is)
@@ -155,10 +153,6 @@ module _ (job : List ℕ) where
       let (clean, rest) = answered nothing (job_rows job) job_numbered e in
       (record { passed = clean }, ap (λ (h : Handed Progress). h.values) rest)
 
-  pub whole_refused : (why : JobRefusal) → handed_step (Refused why) ≡ job_step job → job_rows job ≡ refusal_row why
+  pub whole_refused : (why : JobRefusal) → handed_step (Err why) ≡ job_step job → job_rows job ≡ refusal_row why
   unfolding job_step
   whole_refused why e = refuses nothing (job_rows job) why _ e
-
-  pub whole_stopped : (s : Step) → OneOf (1 ∷ []) (tag_of the_type s) → handed_step s ≡ job_step job → job_rows job ≡ refusal_row (why_of s)
-  whole_stopped (Next p) k e = absurd (miss (1 ∷ []) 0 tt k)
-  whole_stopped (Refused why) k e = whole_refused why e

@@ -6,52 +6,42 @@ ghost use Rattle.steps.specs.Steps.{handed_step};
 ghost use Rattle.faults.specs.Inner.{progress, record_step, job_step};
 
 use crate::LONGEST;
-use kinds::Record;
 use kinds::inner::record_at;
+use kinds::{Record, RecordFault};
 use records::RECORD;
 use refusals::JobRefusal;
+use steps::Progress;
 use steps::inner::{board_step, keepout_step, net_step};
-use steps::{Progress, Step};
 
 // Judges record i: 13, 23, 12, 18, then 14, 15, or 17 before 16.
-fn judge(job: &[u8], i: usize, past: Progress) -> Step
+fn judge(job: &[u8], i: usize, past: Progress) -> Result<Progress, JobRefusal>
     requires job_len_bound { (length job.now ≤ longest_job) × (i < records job.now) }
     requires past_value { past ≡ progress job.now i }
     ensures { handed_step result ≡ record_step job.now i }
 {
     match record_at(job, i) {
-        Record::Unknown => Step::Refused(JobRefusal::Unknown(i)),
-        Record::Unused(k) => Step::Refused(JobRefusal::Unused { record: i, byte: k }),
-        Record::Board { width, height } => board_step(i, width, height),
-        Record::Keepout {
-            left,
-            top,
-            right,
-            bottom,
-        } => keepout_step(past, i, left, top, right, bottom),
-        Record::Net {
-            number,
-            sx,
-            sy,
-            gx,
-            gy,
-        } => net_step(past, i, number, sx, sy, gx, gy),
+        Ok(Record::Board { width, height }) => board_step(i, width, height),
+        Ok(Record::Keepout(cells)) => keepout_step(past, i, cells),
+        Ok(Record::Net(net)) => net_step(past, i, net),
+        Err(RecordFault::Unknown) => Err(JobRefusal::Unknown(i)),
+        Err(RecordFault::Unused(k)) => Err(JobRefusal::Unused { record: i, byte: k }),
     }
 }
 
 // Checks a whole job: 10, 11, then the records in order; a job with no record has no board.
-pub fn check_job(job: &[u8]) -> Step
+#[tactic(auto, unfolding(crate::specs::Inner::job_step, crate::specs::Faults::job_rows))]
+pub fn check_job(job: &[u8]) -> Result<Progress, JobRefusal>
     ensures { handed_step result ≡ job_step job.now }
 {
     if LONGEST < job.len() {
-        return Step::Refused(JobRefusal::Long);
+        return Err(JobRefusal::Long);
     }
     if job.len() % RECORD != 0 {
-        return Step::Refused(JobRefusal::Uneven);
+        return Err(JobRefusal::Uneven);
     }
     let count = job.len() / RECORD;
     if count == 0 {
-        return Step::Refused(JobRefusal::Order(0));
+        return Err(JobRefusal::Order(0));
     }
     let mut past = Progress {
         width: 0,
@@ -60,11 +50,7 @@ pub fn check_job(job: &[u8]) -> Step
         nets: 0,
     };
     for i in 0..count {
-        let judged = judge(job, i, past);
-        let Step::Next(next) = judged else {
-            return judged;
-        };
-        past = next;
+        past = judge(job, i, past)?;
     }
-    Step::Next(past)
+    Ok(past)
 }

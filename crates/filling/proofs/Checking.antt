@@ -3,6 +3,7 @@ use Prim.Native.Nat.{ℕ, ◌≤◌, ◌<◌}
 use mathlib.Core.Path.{◌≡◌}
 use mathlib.Core.Bool.{Bool, true, false, not, ◌&&◌}
 use mathlib.Core.List.{List}
+use native.Mathlib.Omega.{arith}
 use lib.Dec.{ltb, eqb}
 use lib.ListN.{length}
 use borrow.Author.Tests.{not-false, ltb-false, eqb-true, lt-ltb, le-ltb, eq-eqb, ne_eqb}
@@ -14,7 +15,8 @@ use Rattle.bits.specs.Packed.{packed_bytes, first_filling}
 use Rattle.bits.specs.Inner.{Sides, Sized}
 use Rattle.filling.specs.declared.PackedRefusal.{PackedRefusal}
 use Rattle.filling.specs.declared.PackedRefusal.TheVariants.{Side, Length, Filling}
-use Rattle.filling.specs.Filling.{packed_rows, packed_row}
+use Rattle.std.specs.Prelude.{Some, None}
+use Rattle.filling.specs.Filling.{filling_place, packed_rows, packed_row}
 
 -- ---- the rows 1, 29 and 30, case by case
 
@@ -41,6 +43,14 @@ module _ (packed : List ℕ) (w h : ℕ) where
     pub rows_pass : length packed ≡ packed_bytes w h → length packed ≤ first_filling packed w → packed_rows packed w h ≡ passes
     unfolding packed_rows
     rows_pass f l = rw (s, eq-eqb (length packed) (packed_bytes w h) f, le-ltb (first_filling packed w) (length packed) l)
+
+  -- ---- the place of a filling bit
+
+  pub some_place : {at : ℕ} → at ≡ first_filling packed w → at < length packed → Some at ≡ filling_place packed w
+  some_place {at} e l = rw (← e, lt-ltb at (length packed) l)
+
+  pub none_place : length packed ≡ first_filling packed w → None ≡ filling_place packed w
+  none_place e = rw (← e, le-ltb (length packed) (length packed) (omega arith))
 
 -- ---- what accepted bytes are known to be
 

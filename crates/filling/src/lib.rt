@@ -2,85 +2,66 @@
 #![tactic(auto)]
 
 ghost use Rattle.std.specs.Prelude.{◌≡◌};
-ghost use Rattle.board.specs.Handed.{number_in, place_in};
-ghost use Rattle.bits.specs.Packed.{first_filling};
+ghost use Rattle.board.specs.Handed.{verdict};
 ghost use Rattle.bits.specs.Inner.{Sized};
-ghost use Rattle.filling.specs.Filling.{packed_rows, packed_row, verdict};
+ghost use Rattle.filling.specs.Filling.{filling_place, packed_rows, packed_row};
 
 use bits::inner::row_bytes;
 use board::inner::side_fits;
+use board::{Numbered, Row};
 
 // Why packed bytes are refused: 1, 29, or 30 with the index of the first byte that has a filling bit set.
-#[derive(Clone, Copy)]
+#[derive(Clone, Copy, PartialEq, Eq)]
 pub enum PackedRefusal {
     Side,
     Length,
     Filling(usize),
 }
 
-impl PackedRefusal {
-    // The table's number.
-    pub fn number(self) -> u64
-        ensures { result ≡ number_in (packed_row self) }
-    {
-        match self {
-            PackedRefusal::Side => 1,
-            PackedRefusal::Length => 29,
-            PackedRefusal::Filling(_) => 30,
-        }
-    }
+impl Numbered for PackedRefusal {
+    ghost row = { packed_row };
 
-    // The index of the byte, 0 where no place is named.
-    pub fn place(self) -> usize
-        ensures { result ≡ place_in (packed_row self) }
-    {
+    fn row(self) -> Row {
         match self {
-            PackedRefusal::Side => 0,
-            PackedRefusal::Length => 0,
-            PackedRefusal::Filling(at) => at,
+            PackedRefusal::Side => Row::of(1),
+            PackedRefusal::Length => Row::of(29),
+            PackedRefusal::Filling(at) => Row::at(30, at),
         }
     }
 }
 
-// What the checks of packed bytes say.
-#[derive(Clone, Copy)]
-pub enum PackedChecked {
-    Accepted,
-    Refused(PackedRefusal),
-}
-
-// The index of the first byte that has a filling bit set, or the length: only a row's last byte has filling.
-fn first_filling(packed: &[u8], width: usize, height: usize) -> usize
+// The index of the first byte that has a filling bit set, if there is one: only a row's last byte has filling.
+fn first_filling(packed: &[u8], width: usize, height: usize) -> Option<usize>
     requires { Sized packed.now width height }
-    ensures { result ≡ first_filling packed.now width }
+    ensures { result ≡ filling_place packed.now width }
 {
     let row = row_bytes(width);
     let fill = row * 8 - width;
     for end in 1..height + 1 {
         let last = end * row - 1;
         if packed[last] % (1u8 << fill) != 0 {
-            return last;
+            return Some(last);
         }
     }
-    packed.len()
+    None
 }
 
 // Refusals 1, 29 and 30: sides, number of bytes, filling bits.
-pub fn check_packed(packed: &[u8], width: usize, height: usize) -> PackedChecked
-    ensures { verdict result ≡ packed_rows packed.now width height }
+#[tactic(auto, unfolding(crate::specs::Filling::packed_rows))]
+pub fn check_packed(packed: &[u8], width: usize, height: usize) -> Result<(), PackedRefusal>
+    ensures { verdict packed_row result ≡ packed_rows packed.now width height }
 {
     if !side_fits(width) {
-        return PackedChecked::Refused(PackedRefusal::Side);
+        return Err(PackedRefusal::Side);
     }
     if !side_fits(height) {
-        return PackedChecked::Refused(PackedRefusal::Side);
+        return Err(PackedRefusal::Side);
     }
     if packed.len() != row_bytes(width) * height {
-        return PackedChecked::Refused(PackedRefusal::Length);
+        return Err(PackedRefusal::Length);
     }
-    let at = first_filling(packed, width, height);
-    if at < packed.len() {
-        return PackedChecked::Refused(PackedRefusal::Filling(at));
+    match first_filling(packed, width, height) {
+        Some(at) => Err(PackedRefusal::Filling(at)),
+        None => Ok(()),
     }
-    PackedChecked::Accepted
 }

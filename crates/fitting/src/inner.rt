@@ -35,13 +35,10 @@ pub fn place_of(width: usize, v: usize) -> Place
 pub fn count_digits(n: u64) -> usize
     ensures { Counted (decimal n) most_digits result }
 {
-    let mut rest = n;
-    let mut digits = 1;
-    while 10 <= rest {
-        rest /= 10;
-        digits += 1;
+    match n.checked_ilog10() {
+        Some(tens) => tens as usize + 1,
+        None => 1,
     }
-    digits
 }
 
 // How many decimal digits two numbers have.
@@ -67,8 +64,8 @@ fn path_fits(words: usize, width: usize, path: &[Vertex], room: usize) -> bool
         return false;
     }
     let mut left = room - words;
-    for i in 0..path.len() {
-        let bytes = count_vertex(width, path[i]);
+    for v in path {
+        let bytes = count_vertex(width, *v);
         if left < bytes {
             return false;
         }

@@ -1,6 +1,6 @@
 -- A slice that is filled from its end: what it held before place k, then what was put, then what it held. Assumes nothing.
-use Prim.Native.Nat.{ℕ, zero, suc, ◌+◌, ◌≤◌, ◌<◌}
-use mathlib.Core.Path.{◌≡◌, refl, sym, ap, ◌∙◌}
+use Prim.Native.Nat.{ℕ, suc, ◌+◌, ◌≤◌, ◌<◌}
+use mathlib.Core.Path.{◌≡◌, sym, ap, ◌∙◌}
 use mathlib.Core.List.{List, [], ◌∷◌, ◌++◌}
 use native.Mathlib.Omega.{arith}
 use lib.ListN.{length, get_or, set, take, drop, length-append, length-drop, take-append-drop}
@@ -21,16 +21,6 @@ module _ {before now part : List ℕ} {k full : ℕ} (f : Filled before now part
       let a = length-take-le k before (omega (arith, f.ends, f.room)) in
       ap length f.is ∙ length-append (take k before) (part ++ drop full before)
       ∙ omega (arith, a, length-append part (drop full before), length-drop full before, f.ends, f.room)
-
-  -- all of it
-  pub filled_all : k ≡ 0 → now ≡ part ++ drop (length part) before
-  filled_all z =
-      let e : length part ≡ full = omega (arith, f.ends) in
-      rw e (f.is ∙ go k z)
-    where
-      go : (n : ℕ) → n ≡ 0 → take n before ++ (part ++ drop full before) ≡ part ++ drop full before
-      go zero e = refl
-      go (suc n) e = absurd (omega arith)
 
 -- one more before
 pub filled_put : {before now part : List ℕ} {k full : ℕ} (v : ℕ) → Filled before now part (suc k) full → Filled before (set now k v) (v ∷ part) k full

@@ -5,40 +5,17 @@ use mathlib.Core.Logic.{⊎_elim}
 use mathlib.Core.Bool.{Bool, true, false, ◌&&◌, cond, true≢false}
 use mathlib.Core.List.{List, [], ◌∷◌}
 use native.Mathlib.Omega.{arith}
-use lib.Dec.{ltb, eqb}
+use lib.Dec.{eqb}
 use lib.ListN.{length, get_or, set, length-append}
-use borrow.Author.Tests.{ltb-true, eqb-true, lt-ltb, le-ltb}
+use borrow.Author.Tests.{eqb-true, lt-ltb, le-ltb}
 use Rattle.laws.specs.Below.{as_number}
-use Rattle.laws.proofs.Tests.{bool_cases, and_left, and_right, and_false}
+use Rattle.laws.proofs.Tests.{bool_cases, and_left, and_false}
 use Rattle.records.specs.Records.{records, byte}
 use Rattle.tracks.specs.Tracks.{Point, Route, is_point, net_of, point_of, with_point, with_record, routes_from, routes_in}
 use Rattle.tracks.specs.Layout.{Slices, slices, numbers_of, counts_of, each, all, xs_of, ys_of}
-use Rattle.tracks.proofs.Laying.{each_length, counts_length, all_length}
-use Rattle.gather.specs.Inner.{goes_on, PointTaken, NetTaken, NetRoom, Room, Gathered}
-use Rattle.gather.proofs.Filling.{Filled, filled_none, filled_length, filled_all, filled_put, filled_again, filled_first}
-
--- what goes on with net k does so with one that is there
-pub goes_below : (nets : List ℕ) (count k net : ℕ) (point : Bool) → goes_on nets count k net point ≡ true → k < count
-goes_below nets count k net point g =
-    ltb-true k count (and_left (ltb k count) (eqb net (get_or nets k 0)) (and_right point (ltb k count && eqb net (get_or nets k 0)) g))
-
-pub goes_there : (nets : List ℕ) (count k net : ℕ) (point : Bool) → k < count → goes_on nets count k net point ≡ (point && eqb net (get_or nets k 0))
-goes_there nets count k net point l = rw (lt-ltb k count l)
-
-pub goes_past : (nets : List ℕ) (count k net : ℕ) (point : Bool) → count ≤ k → goes_on nets count k net point ≡ false
-goes_past nets count k net point l = rw (le-ltb k count l) (and_false point refl)
-
--- a record that is no point leaves the points, and one that is comes before them
-module _ {x y j : ℕ} {xs ys : List ℕ} where
-  pub none_taken : {point : Bool} → point ≡ false → PointTaken x y point j xs ys j xs ys
-  none_taken e = rw e (record { first = omega arith; xs_are = refl; ys_are = refl })
-
-  pub point_taken : {point : Bool} {x' y' : ℕ} → point ≡ true → x' ≡ x → y' ≡ y
-      → PointTaken x y point j xs ys (j - 1) (set xs (j - 1) x') (set ys (j - 1) y')
-  point_taken e p q = rw (e, p, q) (record { first = refl; xs_are = refl; ys_are = refl })
-
-pub point_some : {point : Bool} {j : ℕ} → point ≡ true → as_number point ≤ j → 1 ≤ j
-point_some e l = rw e at l
+use Rattle.tracks.proofs.Laying.{each_length}
+use Rattle.gather.specs.Inner.{goes_on, PointTaken, NetTaken, NetRoom, Room}
+use Rattle.gather.proofs.Filling.{Filled, filled_none, filled_length, filled_put, filled_again, filled_first}
 
 -- ---- points
 
@@ -207,22 +184,6 @@ module _ {file : List ℕ} {before : Slices} {count points : ℕ} (room : Room f
         xs = rw e (filled_none before.xs points room.xs);
         ys = rw e (filled_none before.ys points room.ys);
       }
-
-  pub taken_all : {now : Slices} {k j : ℕ} → Taken file before now count points 0 k j → Gathered file before now
-  taken_all {now} t =
-      let e : records file - 0 ≡ records file = omega arith in
-      let n = room.count_is in
-      let p = room.points_are in
-      let m = counts_length (routes_in file) in
-      let q = all_length (λ (a : Point). a.x) (λ (a : Point). a.y) (routes_in file) in
-      let nets = filled_all (rw e at t.nets) (omega (arith, (rw e at t.nets).ends)) in
-      let counts = filled_all (rw e at t.counts) (omega (arith, (rw e at t.counts).ends)) in
-      let xs = filled_all (rw e at t.xs) (omega (arith, (rw e at t.xs).ends)) in
-      let ys = filled_all (rw e at t.ys) (omega (arith, (rw e at t.ys).ends)) in
-      same nets counts xs ys
-    where
-      same : {a b c d a' b' c' d' : List ℕ} → a ≡ a' → b ≡ b' → c ≡ c' → d ≡ d' → slices a b c d ≡ slices a' b' c' d'
-      same p q r s = rw (p, q, r, s)
 
   -- one record: what room there is, and what it leaves
   module _ {nets counts xs ys : List ℕ} {i k j : ℕ} (t : Taken file before (slices nets counts xs ys) count points (suc i) k j) where

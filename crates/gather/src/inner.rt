@@ -5,20 +5,16 @@ ghost use Rattle.records.specs.Records.{records, byte};
 ghost use Rattle.tracks.specs.Layout.{slices};
 ghost use Rattle.gather.specs.Inner.{goes_on, PointTaken, NetTaken, NetRoom, Room, Gathered};
 
-use places::inner::{byte_at, one_if};
+use places::inner::{byte_at, is_point};
 use records::RECORD;
-use records::inner::byte_of;
-use tracks::POINT;
+use tracks::Sizes;
 
 // Whether a point of this net belongs to net k, if there is one.
 fn goes_on(nets: &[u8], count: usize, k: usize, net: u8, point: bool) -> bool
     requires { count ≤ length nets.now }
     ensures { result ≡ goes_on nets.now count k net point }
 {
-    if k < count {
-        return point & (net == nets[k]);
-    }
-    false
+    k < count && point && net == nets[k]
 }
 
 // The point of record i, if it is one, before point j; answers the first point.
@@ -52,7 +48,7 @@ fn take_net(
         return k;
     }
     nets[k - 1] = net;
-    counts[k - 1] = one_if(point);
+    counts[k - 1] = usize::from(point);
     k - 1
 }
 
@@ -63,20 +59,17 @@ pub fn gather(
     counts: &mut [usize],
     xs: &mut [u8],
     ys: &mut [u8],
-    count: usize,
-    points: usize,
+    sizes: Sizes,
 )
-    requires { Room file.now (slices nets.old counts.old xs.old ys.old) count points }
+    requires { Room file.now (slices nets.old counts.old xs.old ys.old) sizes.nets sizes.points }
     ensures { Gathered file.now (slices nets.old counts.old xs.old ys.old) (slices nets.new counts.new xs.new ys.new) }
 {
-    let mut i = file.len() / RECORD;
-    let mut k = count;
-    let mut j = points;
-    while 0 < i {
-        i -= 1;
-        let point = byte_of(file, i, 0) == POINT;
+    let mut k = sizes.nets;
+    let mut j = sizes.points;
+    for i in (0..file.len() / RECORD).rev() {
+        let point = is_point(file, i);
         let net = byte_at(file, i, 1);
         j = take_point(file, i, point, xs, ys, j);
-        k = take_net(nets, counts, count, k, net, point);
+        k = take_net(nets, counts, sizes.nets, k, net, point);
     }
 }

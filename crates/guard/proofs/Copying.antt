@@ -1,4 +1,4 @@
--- Entries that are written one by one, and rows that are copied one by one. Assumes nothing.
+-- Rows that are copied one by one, and entries that are made bits one by one. Assumes nothing.
 use Prim.Native.Nat.{ℕ, ◌+◌, ◌*◌, ◌≤◌, ◌<◌}
 use mathlib.Core.Path.{◌≡◌, refl, ap, ◌∙◌}
 use mathlib.Core.Logic.{◌⊎◌, inl, inr, ⊎_elim}
@@ -14,40 +14,6 @@ use Rattle.laws.proofs.Tests.{order}
 use Rattle.laws.specs.Below.{as_number}
 use Rattle.guard.specs.Guard.{place_of}
 use Rattle.guard.specs.Copying.{Copied, Inside, Rows, Bits}
-
--- ---- one row, cell by cell
-
-pub copied_none : (cells : List ℕ) (from to : ℕ) (l : List ℕ) → Copied cells from to 0 l l
-copied_none cells from to l = record {
-  long = refl;
-  new = λ (i : ℕ) (b : i < 0). absurd (omega arith);
-  kept = λ (k : ℕ) (s : (k < to) ⊎ (to + 0 ≤ k)). refl;
-}
-
-module _ {cells before after : List ℕ} {from to n : ℕ} (p : Copied cells from to n before after) where
-  -- the next cell
-  byte : ℕ
-  byte = get_or cells (from + n) 0
-
-  -- an entry that is not the next one stays as it is
-  else_as_before : (k : ℕ) → (k ≡ to + n → ⊥) → get_or (set after (to + n) byte) k 0 ≡ get_or after k 0
-  else_as_before k d = get_or-set_other after (to + n) k byte 0 d
-
-  pub copied_more : to + n < length after → Copied cells from to (n + 1) before (set after (to + n) (get_or cells (from + n) 0))
-  unfolding byte
-  copied_more u = record {
-    long = length-set after (to + n) byte ∙ p.long;
-    new = λ (i : ℕ) (b : i < n + 1).
-        ⊎_elim
-        (λ (l : i < n). else_as_before (to + i) (λ (e : to + i ≡ to + n). omega arith) ∙ p.new i l)
-        (λ (l : n ≤ i). let e : i ≡ n = omega arith in rw e (get_or-set_same after (to + n) byte 0 u))
-        (order i n);
-    kept = λ (k : ℕ) (s : (k < to) ⊎ (to + (n + 1) ≤ k)).
-        ⊎_elim
-        (λ (l : k < to). else_as_before k (λ (e : k ≡ to + n). omega arith) ∙ p.kept k (inl l))
-        (λ (l : to + (n + 1) ≤ k). else_as_before k (λ (e : k ≡ to + n). omega arith) ∙ p.kept k (inr (omega arith)))
-        s;
-  }
 
 -- ---- row by row
 

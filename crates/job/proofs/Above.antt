@@ -13,8 +13,10 @@ use Rattle.board.specs.Inner.{Sound}
 use Rattle.board.specs.Handed.{passes, row, Handed, answer, board_rows, leg_rows}
 use Rattle.board.proofs.Verdicts.{row_passes, both_pass, passes_on, row_within, then_within}
 use Rattle.board.proofs.Rows.{board_sound, rows_pass, ends_pass}
-use Rattle.job.specs.declared.BoardAnswer.TheVariants.{Board}
-use Rattle.job.specs.declared.NetAnswer.TheVariants as net-read
+use Rattle.std.specs.Prelude.{Ok}
+use Rattle.job.specs.declared.Sides as given
+use Rattle.kinds.specs.declared.Net as kinds-given
+use Rattle.kinds.specs.Kind.{as_net}
 use Rattle.kinds.specs.Job.{width, height, board_cells, Net, net_at, nets, net_record}
 use Rattle.faults.specs.Faults.{job_rows}
 use Rattle.job.specs.Answers.{Sides, no_sides, handed_board, board_row, board_after, BoardRead, no_net, handed_net, net_row}
@@ -55,12 +57,12 @@ pub record BoardGiven (job before : List ℕ) (w h n : ℕ) (after : List ℕ) :
   pub front : take (w * h) after ≡ board_cells job
   pub beyond : drop (w * h) after ≡ drop (w * h) before
 
-module _ {job before after : List ℕ} {w h n : ℕ} (r : BoardRead job before (handed_board (Board w h n)) after) where
+module _ {job before after : List ℕ} {s : given.Sides} (r : BoardRead job before (handed_board (Ok s)) after) where
   abbrev cells : ℕ
   cells = width job * height job
 
   judged : ((job_rows job ≡ passes) × (row (ltb (length before) cells) 19 0 ≡ passes))
-      × (handed_board (Board w h n) ≡ answer (record { width = width job; height = height job; nets = nets job }))
+      × (handed_board (Ok s) ≡ answer (record { width = width job; height = height job; nets = nets job }))
   unfolding board_row
   judged =
       let short = row (ltb (length before) cells) 19 0 in
@@ -72,11 +74,11 @@ module _ {job before after : List ℕ} {w h n : ℕ} (r : BoardRead job before (
   unfolding board_after
   after_is = r.after_is ∙ rw (sym r.row_is)
 
-  pub board_given : BoardGiven job before w h n after
+  pub board_given : BoardGiven job before s.width s.height s.nets after
   board_given =
       let vs = ap (λ (x : Handed Sides). x.values) judged.1 in
-      let e : w ≡ width job = ap (λ (v : Sides). v.width) vs in
-      let f : h ≡ height job = ap (λ (v : Sides). v.height) vs in
+      let e : s.width ≡ width job = ap (λ (v : Sides). v.width) vs in
+      let f : s.height ≡ height job = ap (λ (v : Sides). v.height) vs in
       record {
         accepted = record { passed = judged.0.0 };
         wide = e;
@@ -93,8 +95,8 @@ pub record NetGiven (job : List ℕ) (index : ℕ) (net : Net) : Type 0 where
   pub below : index < nets job
   pub net_is : net ≡ net_at job (net_record job index)
 
-module _ (job : List ℕ) (index : ℕ) {number sx sy gx gy : ℕ} (r : handed_net (net-read.Net number sx sy gx gy) ≡ net_row job index) where
-  pub net_given : NetGiven job index (record { number = number; sx = sx; sy = sy; gx = gx; gy = gy })
+module _ (job : List ℕ) (index : ℕ) {n : kinds-given.Net} (r : handed_net (Ok n) ≡ net_row job index) where
+  pub net_given : NetGiven job index (as_net n)
   unfolding net_row
   net_given =
       let none = row (leb (nets job) index) 20 0 in

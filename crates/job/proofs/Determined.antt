@@ -6,47 +6,51 @@ use Prim.Native.Nat.{ℕ}
 use lib.Dec.{eqb}
 use Rattle.laws.proofs.Determined.{undone}
 use Rattle.board.specs.Handed.{Handed}
-use Rattle.job.specs.declared.BoardAnswer.{BoardAnswer}
-use Rattle.job.specs.declared.BoardAnswer.TheVariants as board-read
-use Rattle.job.specs.declared.NetAnswer.{NetAnswer}
-use Rattle.job.specs.declared.NetAnswer.TheVariants as net-read
+use Rattle.refusals.specs.declared.JobRefusal.{JobRefusal}
+use Rattle.std.specs.Prelude.{Result, Ok, Err}
+use Rattle.job.specs.declared.Sides as given
+use Rattle.job.specs.declared.BoardRefusal.{BoardRefusal}
+use Rattle.job.specs.declared.BoardRefusal.TheVariants as unread
+use Rattle.job.specs.declared.NetRefusal.{NetRefusal}
+use Rattle.job.specs.declared.NetRefusal.TheVariants as unfound
+use Rattle.kinds.specs.declared.Net as kinds-given
 use Rattle.kinds.specs.Job.{Net}
 use Rattle.job.specs.Answers.{Sides, handed_board, handed_net, net_row, BoardRead}
 use Rattle.refusals.proofs.Refusing.{refusal_of, listed, not_own}
 
 -- the answer that hands this back
-board_of : Handed Sides → BoardAnswer
+board_of : Handed Sides → Result given.Sides BoardRefusal
 board_of h =
     let v = h.values in
-    cond (eqb h.number 0) (board-read.Board v.width v.height v.nets)
-    (cond (eqb h.number 19) board-read.Short (board-read.Refused (refusal_of h.number h.place h.second)))
+    cond (eqb h.number 0) (Ok (record { width = v.width; height = v.height; nets = v.nets }))
+    (Err (cond (eqb h.number 19) unread.Short (unread.Job (refusal_of h.number h.place h.second))))
 
-net_of : Handed Net → NetAnswer
+net_of : Handed Net → Result kinds-given.Net NetRefusal
 net_of h =
     let v = h.values in
-    cond (eqb h.number 0) (net-read.Net v.number v.sx v.sy v.gx v.gy)
-    (cond (eqb h.number 20) net-read.NoNet (net-read.Refused (refusal_of h.number h.place h.second)))
+    cond (eqb h.number 0) (Ok (record { number = v.number; sx = v.sx; sy = v.sy; gx = v.gx; gy = v.gy }))
+    (Err (cond (eqb h.number 20) unfound.NoNet (unfound.Job (refusal_of h.number h.place h.second))))
 
-board_back : (r : BoardAnswer) → board_of (handed_board r) ≡ r
+board_back : (r : Result given.Sides BoardRefusal) → board_of (handed_board r) ≡ r
 unfolding board_of
-board_back (board-read.Board w h n) = refl
-board_back (board-read.Refused why) =
-    let k = listed why in rw (k.row_is, not_own k 0 refl, not_own k 19 refl) (ap board-read.Refused k.back)
-board_back board-read.Short = refl
+board_back (Ok s) = refl
+board_back (Err (unread.Job why)) =
+    let k = listed why in rw (k.row_is, not_own k 0 refl, not_own k 19 refl) (ap (λ (w : JobRefusal). Err (unread.Job w)) k.back)
+board_back (Err unread.Short) = refl
 
-net_back : (r : NetAnswer) → net_of (handed_net r) ≡ r
+net_back : (r : Result kinds-given.Net NetRefusal) → net_of (handed_net r) ≡ r
 unfolding net_of
-net_back (net-read.Net n a b c d) = refl
-net_back (net-read.Refused why) =
-    let k = listed why in rw (k.row_is, not_own k 0 refl, not_own k 20 refl) (ap net-read.Refused k.back)
-net_back net-read.NoNet = refl
+net_back (Ok n) = refl
+net_back (Err (unfound.Job why)) =
+    let k = listed why in rw (k.row_is, not_own k 0 refl, not_own k 20 refl) (ap (λ (w : JobRefusal). Err (unfound.Job w)) k.back)
+net_back (Err unfound.NoNet) = refl
 
 -- of `read_board`: the answer and what the slice holds
-pub board_determined : {job before : List ℕ} {r s : BoardAnswer} {after after' : List ℕ}
+pub board_determined : {job before : List ℕ} {r s : Result given.Sides BoardRefusal} {after after' : List ℕ}
     → BoardRead job before (handed_board r) after → BoardRead job before (handed_board s) after' → (r ≡ s) × (after ≡ after')
 board_determined p q = (undone handed_board board_of board_back p.row_is q.row_is, p.after_is ∙ sym q.after_is)
 
 -- of `read_net`
-pub net_determined : (job : List ℕ) (index : ℕ) {r s : NetAnswer}
+pub net_determined : (job : List ℕ) (index : ℕ) {r s : Result kinds-given.Net NetRefusal}
     → handed_net r ≡ net_row job index → handed_net s ≡ net_row job index → r ≡ s
 net_determined job index p q = undone handed_net net_of net_back p q

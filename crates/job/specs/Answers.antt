@@ -1,10 +1,13 @@
 -- What the job calls hand back: a board or a net, or one of the numbers 10 to 20 and 23.
-use Rattle.std.specs.Prelude.{ℕ, ◌*◌, ◌≡◌, cond, List, ◌++◌, leb, ltb, eqb, length, drop}
-use Rattle.board.specs.Handed.{refused, row, and_then, Handed, answer, unless, judged}
-use Rattle.job.specs.declared.BoardAnswer.{BoardAnswer}
-use Rattle.job.specs.declared.BoardAnswer.TheVariants as board-read
-use Rattle.job.specs.declared.NetAnswer.{NetAnswer}
-use Rattle.job.specs.declared.NetAnswer.TheVariants as net-read
+use Rattle.std.specs.Prelude.{ℕ, ◌*◌, ◌≡◌, cond, List, ◌++◌, leb, ltb, eqb, length, drop, Option, Some, None, Result}
+use Rattle.board.specs.Handed.{Verdict, refused, row, and_then, Handed, answer, unless, judged, handed}
+use Rattle.job.specs.declared.Sides as given
+use Rattle.job.specs.declared.BoardRefusal.{BoardRefusal}
+use Rattle.job.specs.declared.BoardRefusal.TheVariants as unread
+use Rattle.job.specs.declared.NetRefusal.{NetRefusal}
+use Rattle.job.specs.declared.NetRefusal.TheVariants as unfound
+use Rattle.kinds.specs.declared.Net as kinds-given
+use Rattle.kinds.specs.Kind.{as_net}
 use Rattle.kinds.specs.Job.{width, height, board_cells, nets, net_record, Net, net_at}
 use Rattle.refusals.specs.Refusals.{refusal_row}
 use Rattle.faults.specs.Faults.{job_rows}
@@ -20,11 +23,18 @@ pub record Sides : Type 0 where
 abbrev pub no_sides : Sides
 no_sides = record { width = 0; height = 0; nets = 0 }
 
+-- the row of each refusal
+abbrev pub board_refusal : BoardRefusal → Verdict
+board_refusal (unread.Job why) = refusal_row why
+board_refusal unread.Short = refused 19 0 0
+
+-- the sides that the code has
+abbrev pub as_sides : given.Sides → Sides
+as_sides s = record { width = s.width; height = s.height; nets = s.nets }
+
 -- number, places and values of each case
-abbrev pub handed_board : BoardAnswer → Handed Sides
-handed_board (board-read.Board w h n) = answer (record { width = w; height = h; nets = n })
-handed_board (board-read.Refused why) = judged no_sides (refusal_row why)
-handed_board board-read.Short = judged no_sides (refused 19 0 0)
+abbrev pub handed_board : Result given.Sides BoardRefusal → Handed Sides
+handed_board r = handed no_sides as_sides board_refusal r
 
 -- 10 to 18 and 23, then 19: the lent slice is shorter than the cells
 unfoldable pub board_row : List ℕ → (lent : ℕ) → Handed Sides
@@ -47,10 +57,17 @@ pub record BoardRead (job before : List ℕ) (h : Handed Sides) (after : List �
 abbrev pub no_net : Net
 no_net = record { number = 0; sx = 0; sy = 0; gx = 0; gy = 0 }
 
-abbrev pub handed_net : NetAnswer → Handed Net
-handed_net (net-read.Net n sx sy gx gy) = answer (record { number = n; sx = sx; sy = sy; gx = gx; gy = gy })
-handed_net (net-read.Refused why) = judged no_net (refusal_row why)
-handed_net net-read.NoNet = judged no_net (refused 20 0 0)
+abbrev pub net_refusal : NetRefusal → Verdict
+net_refusal (unfound.Job why) = refusal_row why
+net_refusal unfound.NoNet = refused 20 0 0
+
+abbrev pub handed_net : Result kinds-given.Net NetRefusal → Handed Net
+handed_net r = handed no_net as_net net_refusal r
+
+-- the same of a net looked up in a job that is not refused
+abbrev pub handed_found : Option kinds-given.Net → Handed Net
+handed_found (Some n) = answer (as_net n)
+handed_found None = judged no_net (refused 20 0 0)
 
 -- 10 to 18 and 23, then 20: no net with that index
 unfoldable pub net_row : List ℕ → (index : ℕ) → Handed Net

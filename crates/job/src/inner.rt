@@ -2,55 +2,36 @@
 ghost use Rattle.std.specs.Prelude.{◌≡◌};
 ghost use Rattle.records.specs.Records.{records};
 ghost use Rattle.faults.specs.Inner.{Accepted, progress};
-ghost use Rattle.job.specs.Answers.{handed_board, BoardRead, handed_net, net_row};
+ghost use Rattle.job.specs.Answers.{handed_board, BoardRead, handed_found, net_row};
 
-use crate::{BoardAnswer, NetAnswer};
-use kinds::Record;
+use crate::{BoardRefusal, Sides};
+use kinds::Net;
 use netlist::inner::find_net;
 use painting::inner::write_cells;
 use steps::Progress;
 
 // The board of a job that has been accepted already, of which `whole` is known; nothing is written if the lent slice is short.
-pub fn write_board(job: &[u8], whole: Progress, board: &mut [u8]) -> BoardAnswer
+pub fn write_board(job: &[u8], whole: Progress, board: &mut [u8]) -> Result<Sides, BoardRefusal>
     requires accepted { Accepted job.now }
     requires whole_value { whole ≡ progress job.now (records job.now) }
     ensures { BoardRead job.now board.old (handed_board result) board.new }
 {
-    let width = whole.width;
-    let height = whole.height;
-    let nets = whole.nets;
-    let cells = width * height;
+    let cells = whole.width * whole.height;
     if board.len() < cells {
-        return BoardAnswer::Short;
+        return Err(BoardRefusal::Short);
     }
-    write_cells(job, width, cells, board);
-    BoardAnswer::Board {
-        width,
-        height,
-        nets,
-    }
+    write_cells(job, whole.width, cells, board);
+    Ok(Sides {
+        width: whole.width,
+        height: whole.height,
+        nets: whole.nets,
+    })
 }
 
 // The net with that index, counted from 0, of a job that has been accepted already.
-pub fn net_at(job: &[u8], index: usize) -> NetAnswer
+pub fn net_at(job: &[u8], index: usize) -> Option<Net>
     requires { Accepted job.now }
-    ensures { handed_net result ≡ net_row job.now index }
+    ensures { handed_found result ≡ net_row job.now index }
 {
-    let Record::Net {
-        number,
-        sx,
-        sy,
-        gx,
-        gy,
-    } = find_net(job, index)
-    else {
-        return NetAnswer::NoNet;
-    };
-    NetAnswer::Net {
-        number,
-        sx,
-        sy,
-        gx,
-        gy,
-    }
+    find_net(job, index)
 }

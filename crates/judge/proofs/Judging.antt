@@ -1,56 +1,57 @@
 -- What the functions of this crate hand on: a net taken out of the job, a net judged, a net measured. Assumes nothing.
 use Prim.Native.Nat.{ℕ, ◌+◌, ◌-◌, ◌≤◌, ◌<◌}
 use mathlib.Core.Path.{◌≡◌, refl, sym, ap, ◌∙◌}
-use mathlib.Core.Bool.{true, false, ◌&&◌, true≢false}
+use mathlib.Core.Bool.{Bool, true, false, ◌&&◌, cond}
 use mathlib.Core.List.{List, [], ◌∷◌, ◌++◌}
 use native.Mathlib.Omega.{arith}
 use lib.Dec.{leb}
 use lib.ListN.{length, drop, set}
-use borrow.Author.Tests.{leb-true, lt-leb, lt-ltb, le-ltb}
+use borrow.Author.Tests.{leb-true}
 use Rattle.laws.proofs.Tests.{and_left, and_right}
 use Rattle.laws.proofs.Below.{indexed_below, indexed_does_pass}
 use Rattle.board.specs.Limits.{largest_side}
 use Rattle.board.specs.Board.{Board, board}
 use Rattle.board.specs.Inner.{OnBoard}
-use Rattle.board.specs.Handed.{passes, refused, Handed, answer, judged}
+use Rattle.std.specs.Prelude.{Option, Some, None, is_some, Result, Ok, Err}
+use Rattle.board.specs.Handed.{passes, refused, row, verdict}
 use Rattle.board.proofs.Rows.{side_le}
 use Rattle.records.specs.Records.{records, in_order}
 use Rattle.records.proofs.InOrder.{each_passes, one_more, first_refused}
-use Rattle.refusals.specs.declared.JobRefusal.{JobRefusal}
-use Rattle.refusals.specs.Refusals.{refusal_row}
-use Rattle.refusals.proofs.Refusing.{listed}
+use Rattle.kinds.specs.declared.Net as given
 use Rattle.kinds.specs.Job.{is_net, Net, nets, net_record, width, height}
+use Rattle.kinds.specs.Inner.{as_said, as_net}
 use Rattle.faults.specs.Inner.{Accepted}
 use Rattle.faults.proofs.Accepted.{width_fits, height_fits, start_on, goal_on}
-use Rattle.job.specs.declared.NetAnswer.{NetAnswer}
-use Rattle.job.specs.Answers.{no_net, handed_net}
-use Rattle.job.specs.Answers.{net_row as net_handed}
+use Rattle.netlist.specs.Inner.{net_in, net_said}
+use Rattle.netlist.proofs.Nets.{said_net}
 use Rattle.bits.specs.Packed.{entries}
 use Rattle.bits.proofs.Entries.{entries_length, written_next}
 use Rattle.tracks.specs.Tracks.{Point, Route, routes_in}
 use Rattle.tracks.specs.Answers.{laid}
-use Rattle.bureau.specs.declared.Wanted.{Wanted}
-use Rattle.bureau.specs.declared.NetFault.{NetFault}
-use Rattle.bureau.specs.declared.CheckAnswer.{CheckAnswer}
-use Rattle.bureau.specs.declared.CheckAnswer.TheVariants as said
+use Rattle.bureau.specs.declared.CheckRefusal.{CheckRefusal}
 use Rattle.bureau.specs.declared.Fault.{Fault}
-use Rattle.bureau.specs.declared.Fault.TheVariants as fault
+use Rattle.bureau.specs.declared.Points.{Points}
 use Rattle.bureau.specs.Paths.{point_at, net_rows, path_rows, units_along}
 use Rattle.bureau.specs.Nets.{job_board, job_net, points_for, net_numbers, odd_net, odd_row, net_row, nets_rows, net_units, net_legs, units_of, legs_of}
-use Rattle.bureau.specs.Answers.{no_nets, handed_check, is_jobs, Searching, searching, after_net, after_nets}
-use Rattle.bureau.specs.Inner.{net_for, Room, EndsOf, fault_row, is_nothing, OnJob, NetJudged, NetsJudged, NetsChecked, PointsSmall, AllRight, Measured}
-use Rattle.bureau.proofs.Answering.{one_judged, no_more, net_refused, nets_right}
+use Rattle.bureau.specs.Answers.{check_refusal_row, of_job, Searching, searching, after_net, after_nets}
+use Rattle.bureau.specs.Inner.{place_before, record_points, PointsOf, Room, EndsOf, fault_row, OnJob, NetJudged, NetsJudged, NetsChecked, PointsSmall, AllRight, Measured}
+use Rattle.bureau.proofs.Answering.{refuses, one_judged, no_more, net_refused, nets_right}
 use Rattle.points.proofs.Same.{net_same, path_on}
 
 -- ---- a net of the job
 
 module _ {job : List ℕ} (a : Accepted job) (index : ℕ) (l : index < nets job) where
-  net_there : net_handed job index ≡ answer (job_net job index)
-  unfolding net_handed
-  net_there = rw (a.passed, lt-leb (nets job) index l)
+  net_there : net_in (net_said job index) ≡ Some (as_said (job_net job index))
+  net_there = ap net_in (said_net a index l)
 
-  pub wanted_is : (r : NetAnswer) → handed_net r ≡ net_handed job index → (handed_net r).values ≡ job_net job index
-  wanted_is r e = ap (λ (h : Handed Net). h.values) (e ∙ net_there)
+  pub there : {r : Option given.Net} → r ≡ net_in (net_said job index) → is_some r ≡ true
+  there e = ap is_some (e ∙ net_there)
+
+  pub wanted_is : {r : Option given.Net} {net : given.Net} → r ≡ net_in (net_said job index) → r ≡ Some net → as_net net ≡ job_net job index
+  wanted_is {net = net} e f =
+      let g : Some net ≡ Some (as_said (job_net job index)) = sym f ∙ e ∙ net_there in
+      let h : net ≡ as_said (job_net job index) = cc in
+      ap as_net h
 
   pub ends_on : EndsOf (job_board job) (job_net job index)
   ends_on =
@@ -64,72 +65,61 @@ module _ {job : List ℕ} (a : Accepted job) (index : ℕ) (l : index < nets job
         y_on = leb-true y (height job) (and_right (leb x (width job)) (leb y (height job)) e);
       }
 
--- a refusal has no net
-pub no_values : (why : JobRefusal) → no_net ≡ (judged no_net (refusal_row why)).values
-no_values why = rw (listed why).row_is
-
 -- ---- a net is judged
 
 -- where no points are given
-pub as_none : {b : Board} {net : Net} {ps : List Point} {w w' : Searching} {r : Fault} → ps ≡ [] → NetJudged b net [] w w' r → NetJudged b net ps w w' r
+pub as_none : {b : Board} {net : Net} {ps : List Point} {w w' : Searching} {r : Result (Unit {0}) Fault} → ps ≡ [] → NetJudged b net [] w w' r
+    → NetJudged b net ps w w' r
 as_none e J = rw e J
 
--- ---- points are given: nothing is searched for
+-- points are given: nothing is searched for
+by_points : (b : Board) (net : Net) (ps : List Point) (w : Searching) (n : ℕ) (q : ℕ → Point) {r : Result (Unit {0}) Fault} → 0 < n → length ps ≡ n
+    → ((k : ℕ) → k < n → point_at ps k ≡ q k) → verdict (fault_row net.number) r ≡ path_rows b net n q → NetJudged b net ps w w r
+by_points b net [] w n q l e h f = absurd (omega arith)
+by_points b net (p ∷ ps) w n q l e h f = record { row_is = f ∙ sym (net_same b net (p ∷ ps) n q l e h); work_is = refl }
 
-pub points_judged : (b : Board) (net : Net) (ps : List Point) (w : Searching) (n : ℕ) (q : ℕ → Point) {r : Fault} → 0 < n → length ps ≡ n
-    → ((k : ℕ) → k < n → point_at ps k ≡ q k) → fault_row net.number r ≡ path_rows b net n q → NetJudged b net ps w w r
-points_judged b net [] w n q l e h f = absurd (omega arith)
-points_judged b net (p ∷ ps) w n q l e h f = record { row_is = f ∙ sym (net_same b net (p ∷ ps) n q l e h); work_is = refl }
+pub points_judged : {b : Board} {net : Net} {file : List ℕ} {points : Points} {w : Searching} {r : Result (Unit {0}) Fault} → PointsOf file net.number points
+    → verdict (fault_row net.number) r ≡ path_rows b net points.count (record_points file points.first)
+    → NetJudged b net (points_for (routes_in file) net.number) w w r
+points_judged P f = by_points _ _ _ _ _ _ P.some P.length_is P.point_is f
 
 -- ---- net after net
-
-nothing_passes : (n : ℕ) (f : Fault) → is_nothing f ≡ true → fault_row n f ≡ passes
-nothing_passes n fault.Nothing h = refl
-nothing_passes n fault.End h = absurd (true≢false (sym h))
-nothing_passes n (fault.Off k) h = absurd (true≢false (sym h))
-nothing_passes n (fault.Leg k) h = absurd (true≢false (sym h))
-nothing_passes n fault.Path h = absurd (true≢false (sym h))
-
-pub fault_refuses : (n : ℕ) (f : Fault) → is_nothing f ≡ false → (a : ℕ) × (b : ℕ) × (c : ℕ) × (fault_row n f ≡ refused a b c)
-fault_refuses n fault.Nothing h = absurd (true≢false h)
-fault_refuses n fault.End h = (25, n, 0, refl)
-fault_refuses n (fault.Off k) h = (26, n, k, refl)
-fault_refuses n (fault.Leg k) h = (27, n, k, refl)
-fault_refuses n fault.Path h = (28, n, 0, refl)
 
 module _ {job file cells : List ℕ} {wide high many : ℕ} (O : OnJob job file cells wide high many) where
   pub board_is : board cells wide high ≡ job_board job
   board_is = rw (O.cells_are, O.wide_is, O.high_is)
 
-  pub ends_for : {net : Wanted} (index : ℕ) → net_for net ≡ job_net job index → index < nets job → EndsOf (board cells wide high) (net_for net)
+  pub ends_for : {net : given.Net} (index : ℕ) → as_net net ≡ job_net job index → index < nets job → EndsOf (board cells wide high) (as_net net)
   ends_for index is l = rw (board_is, is) (ends_on O.accepted index l)
 
   -- the net with an index is judged after those before it passed
-  module _ (w₀ : Searching) (index : ℕ) {w w' : Searching} {net : Wanted} {f : Fault} (is : net_for net ≡ job_net job index)
+  module _ (w₀ : Searching) (index : ℕ) {w w' : Searching} {net : given.Net} {r : Result (Unit {0}) Fault} (is : as_net net ≡ job_net job index)
       (e : w ≡ after_nets job (routes_in file) index w₀) (p : in_order index (net_row job (routes_in file)) ≡ passes)
-      (J : NetJudged (board cells wide high) (net_for net) (points_for (routes_in file) net.number) w w' f) where
-    judged_row : fault_row net.number f ≡ net_row job (routes_in file) index
+      (J : NetJudged (board cells wide high) (as_net net) (points_for (routes_in file) net.number) w w' r) where
+    judged_row : verdict (fault_row net.number) r ≡ net_row job (routes_in file) index
     judged_row =
-        J.row_is ∙ ap (λ (b : Board). net_rows b (net_for net) (points_for (routes_in file) net.number)) board_is
+        J.row_is ∙ ap (λ (b : Board). net_rows b (as_net net) (points_for (routes_in file) net.number)) board_is
         ∙ ap (λ (n : Net). net_rows (job_board job) n (points_for (routes_in file) n.number)) is
 
     pub judged_work : w' ≡ after_nets job (routes_in file) (index + 1) w₀
     judged_work =
         one_judged job (routes_in file) w₀ index p
-        (J.work_is ∙ ap (λ (b : Board). after_net passes b (net_for net) (points_for (routes_in file) net.number) w) board_is
+        (J.work_is ∙ ap (λ (b : Board). after_net passes b (as_net net) (points_for (routes_in file) net.number) w) board_is
         ∙ ap (λ (n : Net). after_net passes (job_board job) n (points_for (routes_in file) n.number) w) is
         ∙ ap (λ (v : Searching). after_net passes (job_board job) (job_net job index) (points_for (routes_in file) (job_net job index).number) v) e)
 
-    pub judged_next : is_nothing f ≡ true → in_order (index + 1) (net_row job (routes_in file)) ≡ passes
-    judged_next h = one_more (net_row job (routes_in file)) index p (sym judged_row ∙ nothing_passes net.number f h)
+    pub judged_next : passes ≡ verdict (fault_row net.number) r → in_order (index + 1) (net_row job (routes_in file)) ≡ passes
+    judged_next h = one_more (net_row job (routes_in file)) index p (sym judged_row ∙ sym h)
 
-    pub judged_stop : index < nets job → is_nothing f ≡ false → NetsJudged job (routes_in file) w₀ w' (record { net = net.number; fault = f })
+    pub judged_stop : index < nets job → (why : CheckRefusal) → check_refusal_row why ≡ verdict (fault_row net.number) r → of_job why ≡ false
+        → NetsJudged job (routes_in file) w₀ w' (Err why)
     unfolding nets_rows
-    judged_stop l h =
-        let (a, b, c, g) = fault_refuses net.number f h in
-        let q : net_row job (routes_in file) index ≡ refused a b c = sym judged_row ∙ g in
+    judged_stop l why h j =
+        let (a, b, c, g) = refuses why in
+        let q : net_row job (routes_in file) index ≡ refused a b c = sym judged_row ∙ sym h ∙ g in
         record {
           row_is = g ∙ sym (first_refused (net_row job (routes_in file)) index p q (nets job) l);
+          job_is = j;
           work_is = judged_work ∙ sym (no_more job (routes_in file) w₀ index p q (nets job) l);
         }
 
@@ -145,10 +135,10 @@ room_same R e f h k = record {
 }
 
 -- all have passed
-pub judged_done : {job : List ℕ} {rs : List Route} {w₀ w : Searching} {k n : ℕ} → w ≡ after_nets job rs k w₀ → in_order k (net_row job rs) ≡ passes
-    → k ≡ nets job → NetsJudged job rs w₀ w (record { net = n; fault = fault.Nothing })
+pub judged_done : {job : List ℕ} {rs : List Route} {w₀ w : Searching} {k : ℕ} → w ≡ after_nets job rs k w₀ → in_order k (net_row job rs) ≡ passes
+    → k ≡ nets job → NetsJudged job rs w₀ w (Ok tt)
 unfolding nets_rows
-judged_done {job} {rs} {w₀} e p s = record { row_is = sym (rw s at p); work_is = rw s at e }
+judged_done e p s = record { row_is = sym (rw s at p); job_is = refl; work_is = rw s at e }
 
 -- ---- the results, net after net
 
@@ -191,26 +181,28 @@ module _ (job : List ℕ) (rs : List Route) (index : ℕ) (before : List ℕ) {n
 -- ---- the whole
 
 -- the net that was found, or that there is none
-module _ (job : List ℕ) (rs : List Route) {odd : ℕ} (is : odd ≡ odd_net job rs) where
-  pub odd_is : odd < net_numbers → odd_row job rs ≡ refused 24 odd 0
-  odd_is l = rw (← is, lt-ltb odd net_numbers l)
+odd_row_is : (t : Bool) (place : ℕ) {net : ℕ} → Some net ≡ cond t (Some place) None → row t 24 place ≡ refused 24 net 0
+odd_row_is true place {net} e = let s : net ≡ place = cc in rw s
+odd_row_is false place e = cc
 
-  pub even_is : net_numbers ≤ odd → odd_row job rs ≡ passes
-  even_is l = rw (← is, le-ltb odd net_numbers l)
+even_row_is : (t : Bool) (place : ℕ) → None ≡ cond t (Some place) None → row t 24 place ≡ passes
+even_row_is true place e = cc
+even_row_is false place e = refl
 
-module _ (job file : List ℕ) (units leg_counts : List ℕ) (even : odd_row job (routes_in file) ≡ passes) {w w' : Searching} {found : NetFault}
-    (J : NetsJudged job (routes_in file) w w' found) where
+module _ (job : List ℕ) (rs : List Route) where
+  pub odd_is : {net : ℕ} → Some net ≡ place_before (odd_net job rs) net_numbers → odd_row job rs ≡ refused 24 net 0
+  odd_is e = odd_row_is _ (odd_net job rs) e
+
+  pub even_is : None ≡ place_before (odd_net job rs) net_numbers → odd_row job rs ≡ passes
+  even_is e = even_row_is _ (odd_net job rs) e
+
+module _ (job file : List ℕ) (units leg_counts : List ℕ) (even : odd_row job (routes_in file) ≡ passes) {w w' : Searching} where
   -- a net has a fault: it is answered
-  pub nets_stopped : {r : CheckAnswer} → is_nothing found.fault ≡ false → handed_check r ≡ judged no_nets (fault_row found.net found.fault)
-      → is_jobs r ≡ false → NetsChecked job file w w' units units leg_counts leg_counts r
-  nets_stopped n h j =
-      let (a, b, c, g) = fault_refuses found.net found.fault n in
-      net_refused job file w units leg_counts even J.work_is (sym J.row_is ∙ g) (h ∙ ap (judged no_nets) g) j
+  pub nets_stopped : {why : CheckRefusal} → NetsJudged job (routes_in file) w w' (Err why) → NetsChecked job file w w' units units leg_counts leg_counts (Err why)
+  nets_stopped {why} J = net_refused job file w units leg_counts even J.work_is why (sym J.row_is) J.job_is
 
   -- none has
-  pub rows_pass : is_nothing found.fault ≡ true → nets_rows job (routes_in file) ≡ passes
-  rows_pass n = sym J.row_is ∙ nothing_passes found.net found.fault n
-
-  pub nets_done : {many : ℕ} {units' leg_counts' : List ℕ} → is_nothing found.fault ≡ true → many ≡ nets job → units' ≡ laid (units_of job (routes_in file)) units
-      → leg_counts' ≡ laid (legs_of job (routes_in file)) leg_counts → NetsChecked job file w w' units units' leg_counts leg_counts' (said.Right many)
-  nets_done n e u l = rw e (nets_right job file w units leg_counts even J.work_is (rows_pass n) u l)
+  pub nets_done : NetsJudged job (routes_in file) w w' (Ok tt) → {many : ℕ} {units' leg_counts' : List ℕ} → many ≡ nets job
+      → units' ≡ laid (units_of job (routes_in file)) units → leg_counts' ≡ laid (legs_of job (routes_in file)) leg_counts
+      → NetsChecked job file w w' units units' leg_counts leg_counts' (Ok many)
+  nets_done J e u l = rw e (nets_right job file w units leg_counts even J.work_is (sym J.row_is) u l)

@@ -1,6 +1,6 @@
 // The nets of an accepted job beside the routes of a file that passed, on the job's cells.
 ghost use Rattle.std.specs.Prelude.{◌≡◌, ◌≤◌, ◌<◌, length};
-ghost use Rattle.board.specs.Board.{board};
+ghost use Rattle.board.specs.Checked.{board_of};
 ghost use Rattle.board.specs.Handed.{passes};
 ghost use Rattle.kinds.specs.Job.{nets};
 ghost use Rattle.faults.specs.Inner.{Accepted};
@@ -9,106 +9,73 @@ ghost use Rattle.tracks.specs.Faults.{file_rows};
 ghost use Rattle.tracks.specs.Answers.{laid};
 ghost use Rattle.bureau.specs.Nets.{job_net, points_for, units_of, legs_of};
 ghost use Rattle.bureau.specs.Answers.{searching};
-ghost use Rattle.bureau.specs.Inner.{net_for, Room, EndsOf, OnJob, NetJudged, NetsJudged, NetsChecked, AllRight};
+ghost use Rattle.kinds.specs.Inner.{as_net};
+ghost use Rattle.bureau.specs.Inner.{Room, EndsOf, OnJob, NetJudged, NetsJudged, NetsChecked, AllRight};
 
 use board::Vertex;
-use bureau::{CheckAnswer, Fault, NetFault, Wanted};
+use board::checked::Board;
+use bureau::{CheckRefusal, Fault};
 use claims::inner::judge_none;
-use job::NetAnswer;
-use job::inner::net_at;
+use kinds::Net;
+use netlist::inner::find_net;
 use points::inner::judge_points;
 use results::inner::write_net;
-use roster::inner::{NUMBERS, odd_net};
-use runs::inner::{count_points, first_record, has_point};
+use roster::inner::odd_net;
+use runs::inner::find_points;
 
 // The net with that index.
-fn wanted_net(job: &[u8], index: usize) -> Wanted
+fn wanted_net(job: &[u8], index: usize) -> Net
     requires accepted { Accepted job.now }
     requires index_bound { index < nets job.now }
-    ensures { net_for result ≡ job_net job.now index }
+    ensures { as_net result ≡ job_net job.now index }
 {
-    let none = Wanted {
-        number: 0,
-        sx: 0,
-        sy: 0,
-        gx: 0,
-        gy: 0,
-    };
-    match net_at(job, index) {
-        NetAnswer::Net {
-            number,
-            sx,
-            sy,
-            gx,
-            gy,
-        } => Wanted {
-            number,
-            sx,
-            sy,
-            gx,
-            gy,
-        },
-        NetAnswer::Refused(_) => none,
-        NetAnswer::NoNet => none,
-    }
+    find_net(job, index).unwrap()
 }
 
 // What is wrong with what the file gives for a net.
 fn judge_net(
-    cells: &[u8],
-    width: usize,
-    height: usize,
+    board: &Board<'_>,
     file: &[u8],
-    net: Wanted,
+    net: Net,
     g: &mut [u64],
     parents: &mut [Vertex],
     marks: &mut [u8],
     legs: &mut [Vertex],
-) -> Fault
-    requires room { Room (board cells.now width height) (searching g.old parents.old marks.old legs.old) }
-    requires ends_of { EndsOf (board cells.now width height) (net_for net) }
+) -> Result<(), Fault>
+    requires room { Room (board_of board.now) (searching g.old parents.old marks.old legs.old) }
+    requires ends_of { EndsOf (board_of board.now) (as_net net) }
     requires file_value { file_rows file.now ≡ passes }
-    ensures { NetJudged (board cells.now width height) (net_for net) (points_for (routes_in file.now) net.number) (searching g.old parents.old marks.old legs.old) (searching g.new parents.new marks.new legs.new) result }
+    ensures { NetJudged (board_of board.now) (as_net net) (points_for (routes_in file.now) net.number) (searching g.old parents.old marks.old legs.old) (searching g.new parents.new marks.new legs.new) result }
 {
-    let first = first_record(file, net.number);
-    if !has_point(file, first) {
-        return judge_none(cells, width, height, net, g, parents, marks, legs);
+    match find_points(file, net.number) {
+        None => judge_none(board, net, g, parents, marks, legs),
+        Some(points) => judge_points(board, file, points, net),
     }
-    let n = count_points(file, first);
-    judge_points(cells, width, height, file, first, n, net)
 }
 
-// The first net with a fault, in the job's order.
+// Each net in the job's order, as far as the first with a fault.
 fn judge_nets(
     job: &[u8],
     file: &[u8],
-    cells: &[u8],
-    width: usize,
-    height: usize,
+    board: &Board<'_>,
     nets: usize,
     g: &mut [u64],
     parents: &mut [Vertex],
     marks: &mut [u8],
     legs: &mut [Vertex],
-) -> NetFault
-    requires on_job { OnJob job.now file.now cells.now width height nets }
-    requires room { Room (board cells.now width height) (searching g.old parents.old marks.old legs.old) }
+) -> Result<(), CheckRefusal>
+    requires on_job { OnJob job.now file.now board.now.cells.now board.now.width board.now.height nets }
+    requires room { Room (board_of board.now) (searching g.old parents.old marks.old legs.old) }
     ensures { NetsJudged job.now (routes_in file.now) (searching g.old parents.old marks.old legs.old) (searching g.new parents.new marks.new legs.new) result }
 {
     for index in 0..nets {
         let net = wanted_net(job, index);
-        let fault = judge_net(cells, width, height, file, net, g, parents, marks, legs);
-        if !fault.is_nothing() {
-            return NetFault {
-                net: net.number,
-                fault,
-            };
+        let judged = judge_net(board, file, net, g, parents, marks, legs);
+        if let Err(fault) = judged {
+            return Err(fault.of(net.number));
         }
     }
-    NetFault {
-        net: 0,
-        fault: Fault::Nothing,
-    }
+    Ok(())
 }
 
 // Writes the lengths and the legs of all nets, which are right.
@@ -127,9 +94,7 @@ fn write_results(job: &[u8], file: &[u8], nets: usize, units: &mut [u64], counts
 pub fn check_nets(
     job: &[u8],
     file: &[u8],
-    cells: &[u8],
-    width: usize,
-    height: usize,
+    board: &Board<'_>,
     nets: usize,
     g: &mut [u64],
     parents: &mut [Vertex],
@@ -137,23 +102,16 @@ pub fn check_nets(
     legs: &mut [Vertex],
     units: &mut [u64],
     counts: &mut [u32],
-) -> CheckAnswer
-    requires on_job { OnJob job.now file.now cells.now width height nets }
-    requires room { Room (board cells.now width height) (searching g.old parents.old marks.old legs.old) }
+) -> Result<usize, CheckRefusal>
+    requires on_job { OnJob job.now file.now board.now.cells.now board.now.width board.now.height nets }
+    requires room { Room (board_of board.now) (searching g.old parents.old marks.old legs.old) }
     requires nets_in_bounds { (nets ≤ length units.old) × (nets ≤ length counts.old) }
     ensures { NetsChecked job.now file.now (searching g.old parents.old marks.old legs.old) (searching g.new parents.new marks.new legs.new) units.old units.new counts.old counts.new result }
 {
-    let odd = odd_net(job, file);
-    if odd < NUMBERS {
-        return CheckAnswer::Odd(odd);
+    if let Some(net) = odd_net(job, file) {
+        return Err(CheckRefusal::Odd(net));
     }
-    let found = judge_nets(
-        job, file, cells, width, height, nets, g, parents, marks, legs,
-    );
-    let fault = found.fault;
-    if !fault.is_nothing() {
-        return fault.answer(found.net);
-    }
+    judge_nets(job, file, board, nets, g, parents, marks, legs)?;
     write_results(job, file, nets, units, counts);
-    CheckAnswer::Right(nets)
+    Ok(nets)
 }

@@ -1,35 +1,63 @@
 // The kinds of a job's records: a board, a keepout or a net, by the type in byte 0.
 #![tactic(auto)]
 
+ghost use Rattle.kinds.specs.Kind.{Decodes};
+
 pub mod inner;
 
-// The types, as byte 0 of a record gives them.
-const BOARD: usize = 1;
+// What a record is of.
+#[derive(Clone, Copy, PartialEq, Eq)]
+pub enum Kind {
+    Board,
+    Keepout,
+    Net,
+}
 
-const KEEPOUT: usize = 2;
+impl TryFrom<usize> for Kind {
+    type Error = RecordFault;
 
-pub const NET: usize = 3;
+    ghost try_from_gives = { Decodes };
 
-// What a record says; a keepout goes from (left, top) to just before (right, bottom). Unused has the byte.
+    fn try_from(code: usize) -> Result<Self, RecordFault> {
+        match code {
+            1 => Ok(Kind::Board),
+            2 => Ok(Kind::Keepout),
+            3 => Ok(Kind::Net),
+            _ => Err(RecordFault::Unknown),
+        }
+    }
+}
+
+// Cells in a rectangle, from (left, top) to just before (right, bottom).
+#[derive(Clone, Copy)]
+pub struct Rectangle {
+    pub left: usize,
+    pub top: usize,
+    pub right: usize,
+    pub bottom: usize,
+}
+
+// A net: its number, start (sx, sy) and goal (gx, gy).
+#[derive(Clone, Copy)]
+pub struct Net {
+    pub number: usize,
+    pub sx: usize,
+    pub sy: usize,
+    pub gx: usize,
+    pub gy: usize,
+}
+
+// What a record says.
 #[derive(Clone, Copy)]
 pub enum Record {
-    Board {
-        width: usize,
-        height: usize,
-    },
-    Keepout {
-        left: usize,
-        top: usize,
-        right: usize,
-        bottom: usize,
-    },
-    Net {
-        number: usize,
-        sx: usize,
-        sy: usize,
-        gx: usize,
-        gy: usize,
-    },
+    Board { width: usize, height: usize },
+    Keepout(Rectangle),
+    Net(Net),
+}
+
+// Why a record says nothing: its type is unknown, or the byte with this number is not used and not 0.
+#[derive(Clone, Copy, PartialEq, Eq)]
+pub enum RecordFault {
     Unknown,
     Unused(usize),
 }

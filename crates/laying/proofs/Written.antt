@@ -1,11 +1,15 @@
 -- A slice into which a file is written record by record. Assumes nothing.
-use Prim.Native.Nat.{ℕ, zero, suc, ◌+◌, ◌*◌, ◌-◌, ◌≤◌, ◌<◌}
+use Prim.Native.Nat.{ℕ, zero, suc, ◌+◌, ◌*◌, ◌-◌, ◌≤◌, ◌<◌, min}
 use mathlib.Core.Path.{◌≡◌, refl, sym, ap, ap₂, ◌∙◌}
 use mathlib.Core.List.{List, [], ◌∷◌, ◌++◌, append_assoc, append-nil}
 use native.Mathlib.Numerals.{add-one}
 use native.Mathlib.Omega.{arith}
-use lib.ListN.{length, get_or, set, take, drop, length-append, length-drop, take-append-drop}
-use lib.Seq.{take_at, drop-drop, drop-append-add, length-take-le, sets-eq}
+use lib.ListN.{length, get_or, take, drop, length-append, length-drop, take-append-drop}
+use lib.Seq.{take_at, drop-drop, drop-append-add, length-take-le}
+use Rattle.std.specs.List.{enumerate_from, zip}
+use Rattle.std.proofs.lemmas.List.{get_or_default, get_or-take, get_or-drop}
+use Rattle.std.proofs.lemmas.List.FromFn.{length-enumerate_from, get_or-enumerate_from}
+use Rattle.std.proofs.lemmas.Slice.Zip.{length-zip, get_or-zip}
 use Rattle.tracks.specs.Tracks.{Point, point_record, none_record, points_from, net_records, file_of}
 use Rattle.tracks.specs.Layout.{Slices, points_at, points_before, routes_up_to}
 use Rattle.tracks.specs.Answers.{laid, file_for}
@@ -76,28 +80,68 @@ points_more net p (q ∷ ps) place =
     let e : place + suc (length ps) ≡ suc place + length ps = omega arith in
     rw e (ap (λ (t : List ℕ). point_record net place q ++ t) (points_more net p ps (suc place)))
 
+-- ---- pairs of two lists, counted
+
+pub pair_at : (xs ys : List ℕ) (k : ℕ) {place x y : ℕ}
+    → (k < length (enumerate_from 0 (zip xs ys))) × ((place, (x, y)) ≡ get_or (enumerate_from 0 (zip xs ys)) k (place, (x, y)))
+    → (k < length xs) × (k < length ys) × (place ≡ k) × (x ≡ get_or xs k 0) × (y ≡ get_or ys k 0)
+pair_at xs ys k {place} {x} {y} t =
+    let long : k < min (length xs) (length ys) = omega (arith, t.0, length-enumerate_from 0 (zip xs ys), length-zip xs ys) in
+    let both : k < length (zip xs ys) = omega (arith, t.0, length-enumerate_from 0 (zip xs ys)) in
+    let in-xs : k < length xs = omega arith in
+    let in-ys : k < length ys = omega arith in
+    let e = t.1 ∙ get_or-enumerate_from 0 (zip xs ys) k (place, (x, y)) both ∙ ap (λ (q : ℕ × ℕ). (0 + k, q)) (get_or-zip xs ys k (x, y) in-xs in-ys) in (
+      in-xs,
+      in-ys,
+      ap (λ (q : ℕ × (ℕ × ℕ)). q.0) e ∙ omega arith,
+      ap (λ (q : ℕ × (ℕ × ℕ)). q.1.0) e ∙ get_or_default xs k x 0 in-xs,
+      ap (λ (q : ℕ × (ℕ × ℕ)). q.1.1) e ∙ get_or_default ys k y 0 in-ys,
+    )
+
+pub pairs_all : (xs ys : List ℕ) (k : ℕ) → length xs ≡ length ys → k ≡ length (enumerate_from 0 (zip xs ys)) → k ≡ length xs
+pairs_all xs ys k same e = omega (arith, e, length-enumerate_from 0 (zip xs ys), length-zip xs ys)
+
+-- ---- the part of a slice that one net has
+
+module _ (from count : ℕ) where
+  abbrev cut : List ℕ → List ℕ
+  cut l = take (from + count - from) (drop from l)
+
+  pub cut_length : (l : List ℕ) → from + count ≤ length l → length (cut l) ≡ count
+  cut_length l h = length-take-le (from + count - from) (drop from l) (omega (arith, length-drop from l)) ∙ omega arith
+
+  cut_at : (l : List ℕ) (n : ℕ) → n < count → get_or (cut l) (0 + n) 0 ≡ get_or l (from + n) 0
+  cut_at l n h =
+      let z : 0 + n ≡ n = omega arith in
+      rw (z, get_or-take (from + count - from) (drop from l) n 0 (omega arith), get_or-drop from l n 0)
+
+  pub points_cut : (xs ys : List ℕ) (n : ℕ) → n ≤ count → points_at (cut xs) (cut ys) 0 n ≡ points_at xs ys from n
+  unfolding points_at
+  points_cut xs ys zero h = refl
+  points_cut xs ys (suc n) h = rw (points_cut xs ys n (omega arith), cut_at xs n (omega arith), cut_at ys n (omega arith))
+
 -- ---- the records of one net, one after the other
 
 points_are : (net : ℕ) (ps : List Point) → (length ps ≡ 0 → ⊥) → points_from net 0 ps ≡ net_records net ps
 points_are net [] h = absurd (h refl)
 points_are net (p ∷ ps) h = refl
 
-module _ (net from at count : ℕ) (xs ys before : List ℕ) (room : (at + records_for count) * 8 ≤ length before) where
+module _ (net at count : ℕ) (xs ys before : List ℕ) (room : (at + records_for count) * 8 ≤ length before) where
   -- what stands before the net, and its first p points
   abbrev pub up_to : ℕ → List ℕ
-  up_to p = take (at * 8) before ++ points_from net 0 (points_at xs ys from p)
+  up_to p = take (at * 8) before ++ points_from net 0 (points_at xs ys 0 p)
 
   begun : length (take (at * 8) before) ≡ at * 8
   begun = length-take-le (at * 8) before (omega arith)
 
   up_length : (p : ℕ) → length (up_to p) ≡ (at + p) * 8
   up_length p =
-      length-append (take (at * 8) before) (points_from net 0 (points_at xs ys from p))
-      ∙ omega (arith, begun, points_length net (points_at xs ys from p) 0, points_count xs ys from p)
+      length-append (take (at * 8) before) (points_from net 0 (points_at xs ys 0 p))
+      ∙ omega (arith, begun, points_length net (points_at xs ys 0 p) 0, points_count xs ys 0 p)
 
   -- no path
   pub net_none : count ≡ 0 → {left : List ℕ} → left ≡ take (at * 8) before ++ (bytes_for 5 net 0 0 0 ++ drop (at * 8 + 8) before)
-      → left ≡ laid (take (at * 8) before ++ net_records net (points_at xs ys from count)) before
+      → left ≡ laid (take (at * 8) before ++ net_records net (points_at xs ys 0 count)) before
   unfolding points_at
   net_none z e =
       let whole : before ≡ laid (take (at * 8) before) before = rw begun (sym (take-append-drop (at * 8) before)) in
@@ -121,40 +165,27 @@ module _ (net from at count : ℕ) (xs ys before : List ℕ) (room : (at + recor
       net_fits l = omega (arith, net_kept (omega arith), wide)
 
       pub net_goes : p < count → {left : List ℕ}
-          → left ≡ take ((at + p) * 8) now ++ (bytes_for 4 net p (get_or xs (from + p) 0) (get_or ys (from + p) 0) ++ drop ((at + p) * 8 + 8) now)
+          → left ≡ take ((at + p) * 8) now ++ (bytes_for 4 net p (get_or xs p 0) (get_or ys p 0) ++ drop ((at + p) * 8 + 8) now)
           → left ≡ laid (up_to (p + 1)) before
       unfolding points_at
       net_goes l f =
-          let q : Point = record { x = get_or xs (from + p) 0; y = get_or ys (from + p) 0 } in
-          let ps : List Point = points_at xs ys from p in
-          let place : 0 + length ps ≡ p = omega (arith, points_count xs ys from p) in
+          let z : 0 + p ≡ p = omega arith in
+          let q : Point = record { x = get_or xs p 0; y = get_or ys p 0 } in
+          let ps : List Point = points_at xs ys 0 p in
+          let place : 0 + length ps ≡ p = omega (arith, points_count xs ys 0 p) in
           let more : points_from net 0 (ps ++ (q ∷ [])) ≡ points_from net 0 ps ++ point_record net p q =
           points_more net q ps 0 ∙ ap (λ (n : ℕ). points_from net 0 ps ++ point_record net n q) place in
           let next : up_to p ++ point_record net p q ≡ up_to (suc p) =
-          append_assoc (take (at * 8) before) (points_from net 0 ps) (point_record net p q) ∙ ap (λ (t : List ℕ). take (at * 8) before ++ t) (sym more) in
+          append_assoc (take (at * 8) before) (points_from net 0 ps) (point_record net p q) ∙ ap (λ (t : List ℕ). take (at * 8) before ++ t) (sym more)
+          ∙ rw z in
           f ∙ laid_record (up_to p) (point_record net p q) before now (at + p) refl (up_length p) (omega (arith, wide)) e
           ∙ ap (λ (t : List ℕ). laid t before) (next ∙ ap up_to (sym (add-one p)))
 
-      pub net_ends : p ≡ count → now ≡ laid (take (at * 8) before ++ net_records net (points_at xs ys from count)) before
+      pub net_ends : p ≡ count → now ≡ laid (take (at * 8) before ++ net_records net (points_at xs ys 0 count)) before
       net_ends z =
-          let n : length (points_at xs ys from count) ≡ 0 → ⊥ = λ h. some (sym (points_count xs ys from count) ∙ h) in
+          let n : length (points_at xs ys 0 count) ≡ 0 → ⊥ = λ h. some (sym (points_count xs ys 0 count) ∙ h) in
           e ∙ ap (λ (m : ℕ). laid (up_to m) before) z
-          ∙ ap (λ (t : List ℕ). laid (take (at * 8) before ++ t) before) (points_are net (points_at xs ys from count) n)
-
--- ---- a slice with eight entries set
-
-pub eight_set : (l : List ℕ) (at a b c d e f g h : ℕ) → at + 8 ≤ length l
-    → set (set (set (set (set (set (set (set l at a) (at + 1) b) (at + 2) c) (at + 3) d) (at + 4) e) (at + 5) f) (at + 6) g) (at + 7) h
-    ≡ take at l ++ ((a ∷ b ∷ c ∷ d ∷ e ∷ f ∷ g ∷ h ∷ []) ++ drop (at + 8) l)
-eight_set l at a b c d e f g h room =
-    let s1 : at + 1 ≡ suc at = omega arith in
-    let s2 : at + 2 ≡ suc (suc at) = omega arith in
-    let s3 : at + 3 ≡ suc (suc (suc at)) = omega arith in
-    let s4 : at + 4 ≡ suc (suc (suc (suc at))) = omega arith in
-    let s5 : at + 5 ≡ suc (suc (suc (suc (suc at)))) = omega arith in
-    let s6 : at + 6 ≡ suc (suc (suc (suc (suc (suc at))))) = omega arith in
-    let s7 : at + 7 ≡ suc (suc (suc (suc (suc (suc (suc at)))))) = omega arith in
-    rw (s1, s2, s3, s4, s5, s6, s7) (sets-eq (a ∷ b ∷ c ∷ d ∷ e ∷ f ∷ g ∷ h ∷ []) l at room ∙ append_assoc (take at l) (a ∷ b ∷ c ∷ d ∷ e ∷ f ∷ g ∷ h ∷ []) (drop (at + 8) l))
+          ∙ ap (λ (t : List ℕ). laid (take (at * 8) before ++ t) before) (points_are net (points_at xs ys 0 count) n)
 
 -- ---- net after net
 
@@ -173,6 +204,10 @@ module _ {s : Slices} {before now : List ℕ} {k at from : ℕ} (j : Laying s be
 
   next_long : length (file_of (routes_up_to s (suc k))) ≡ (at + records_for count) * 8
   next_long = ap length (up_more s k) ∙ length-append (file_of (routes_up_to s k)) (records_at s k) ∙ omega (arith, j.long, records_length s k)
+
+  -- a slice that holds all points counted holds those of the next net
+  pub points_fit : k < length s.nets → {n m : ℕ} → n ≡ count → points_before s.counts (length s.nets) ≤ m → from + n ≤ m
+  points_fit l e h = omega (arith, points_within s k l, j.from_is)
 
   -- the slice keeps its length, as long as the file fits
   pub laying_kept : length (file_for s) ≤ length before → k ≤ length s.nets → length now ≡ length before

@@ -5,3 +5,4 @@ pub mod Leg
 pub mod Stops
 pub mod Nearer
 pub mod Inner
+pub mod Checked

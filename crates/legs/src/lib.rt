@@ -2,8 +2,10 @@
 // it are in `walks`, the call for users in `sight`.
 #![tactic(auto)]
 
+pub mod leg;
+
 // What stops a leg: nothing, a cell, a unit edge with its nearer vertex first, or a vertex.
-#[derive(Clone, Copy)]
+#[derive(Clone, Copy, PartialEq, Eq)]
 pub enum Stop {
     Clear,
     Cell(usize, usize),

@@ -1,12 +1,10 @@
 // The slices that are lent to the check of the bureau's routes: whether they are long enough.
 #![tactic(auto)]
 
-ghost use Rattle.std.specs.Prelude.{◌≡◌, false};
-ghost use Rattle.board.specs.Handed.{judged};
-ghost use Rattle.bureau.specs.Answers.{no_nets, handed_check, is_jobs};
-ghost use Rattle.lending.specs.Short.{short_row, is_enough};
+ghost use Rattle.std.specs.Prelude.{◌≡◌};
+ghost use Rattle.lending.specs.Short.{refusal_of};
 
-use bureau::CheckAnswer;
+use bureau::CheckRefusal;
 
 pub mod inner;
 
@@ -23,36 +21,21 @@ pub struct Lengths {
 }
 
 // Which is too short: 19 the board's, 6 one that a search works in, 21 one for the results.
-#[derive(Clone, Copy)]
+#[derive(Clone, Copy, PartialEq, Eq)]
 pub enum Short {
-    Nothing,
     Board,
     Work,
     Results,
 }
 
-impl Short {
-    // Whether all are long enough.
-    pub fn is_nothing(self) -> bool
-        ensures { result ≡ is_enough self }
-    {
-        match self {
-            Short::Nothing => true,
-            Short::Board => false,
-            Short::Work => false,
-            Short::Results => false,
-        }
-    }
+impl From<Short> for CheckRefusal {
+    ghost from_gives = { λ short refusal. refusal ≡ refusal_of short };
 
-    // What is answered where one is too short.
-    pub fn answer(self) -> CheckAnswer
-        ensures { (handed_check result ≡ judged no_nets (short_row self)) × (is_jobs result ≡ false) }
-    {
-        match self {
-            Short::Nothing => CheckAnswer::Right(0),
-            Short::Board => CheckAnswer::Board,
-            Short::Work => CheckAnswer::Work,
-            Short::Results => CheckAnswer::Results,
+    fn from(short: Short) -> CheckRefusal {
+        match short {
+            Short::Board => CheckRefusal::Board,
+            Short::Work => CheckRefusal::Work,
+            Short::Results => CheckRefusal::Results,
         }
     }
 }

@@ -1,12 +1,17 @@
 -- Every length that a call hands back is a whole number that an f64 holds. Assumes nothing.
 use Rattle.std.proofs.Common.{◌≡◌, ℕ, ◌^◌, ◌<◌, false, ℤ, nat_abs, refl, lit<}
 use lib.Ieee.Exact.{HasValue}
-use Rattle.board.specs.Handed.{Verdict, passes, refused, Handed, unless}
+use Rattle.std.specs.Prelude.{Result, Ok, Err, IfOk, MatchResult, IsOkAnd}
+use Rattle.board.specs.declared.Refusal.{Refusal}
+use Rattle.board.specs.Handed.{Verdict, passes, refused, Handed, answer, unless, refusal_row, verdict}
+use Rattle.board.proofs.Verdicts.{refusal_handed}
+use Rattle.spans.specs.declared.Span.{Span}
+use Rattle.length.specs.declared.Length.{Length}
 use Rattle.spans.specs.Legs.{step, difference_rows, vertex_rows}
 use Rattle.spans.proofs.Legs.{step_small, differences_small, vertices_on}
-use Rattle.length.specs.Units.{units_per_cell}
+use Rattle.length.specs.Units.{units_per_cell, units}
 use Rattle.length.specs.Floats.{in_cells}
-use Rattle.length.specs.Answers.{Long, no_length, length_row, length_between_row}
+use Rattle.length.specs.Answers.{Long, no_length, handed_length, length_row, length_between_row}
 use Rattle.length.proofs.Units.{units_fit}
 use Rattle.length.proofs.Floats.{cells_exact}
 
@@ -37,3 +42,12 @@ length_cells dx dy = cells_exact (length_row dx dy).values.units (length_exact d
 pub length_between_cells : (ax ay bx by : ℕ)
     → HasValue (in_cells (length_between_row ax ay bx by).values.units) false (length_between_row ax ay bx by).values.units units_per_cell
 length_between_cells ax ay bx by = cells_exact (length_between_row ax ay bx by).values.units (length_between_exact ax ay bx by)
+
+-- ---- the length of a span that passed, or its refusal, is the row's answer
+
+pub measured : (dx dy : ℤ) (v : Verdict) (span : Result Span Refusal) (length : Result Length Refusal) → verdict refusal_row span ≡ v
+    → IfOk span (λ s. (s.dx ≡ dx) × (s.dy ≡ dy)) → MatchResult span (λ s. IsOkAnd length (λ l. l.units ≡ units s.dx s.dy)) (λ why. length ≡ Err why)
+    → handed_length length ≡ unless no_length v (answer (record { units = units dx dy }))
+measured dx dy v (Ok s) (Ok l) e (f, g) h = rw (← e, h, f, g)
+measured dx dy v (Ok s) (Err why) e f h = absurd h
+measured dx dy v (Err why) length e f h = rw h (refusal_handed no_length why (answer (record { units = units dx dy })) e)

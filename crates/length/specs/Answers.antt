@@ -1,10 +1,10 @@
 -- What the calls of this crate hand back, in document 01's numbers.
-use Rattle.std.specs.Prelude.{ℕ, ℤ}
-use Rattle.board.specs.Handed.{Handed, answer, unless, judged, refusal_row}
+use Rattle.std.specs.Prelude.{ℕ, ℤ, Result}
+use Rattle.board.specs.declared.Refusal.{Refusal}
+use Rattle.board.specs.Handed.{Handed, answer, unless, handed, refusal_row}
 use Rattle.spans.specs.Legs.{step, difference_rows, vertex_rows}
 use Rattle.length.specs.Units.{units}
-use Rattle.length.specs.declared.Measured.{Measured}
-use Rattle.length.specs.declared.Measured.TheVariants as measured
+use Rattle.length.specs.declared.Length.{Length}
 
 pub record Long : Type 0 where
   pub units : ℕ
@@ -22,6 +22,5 @@ length_between_row ax ay bx by =
     unless no_length (vertex_rows ax ay bx by) (answer (record { units = units (step ax bx) (step ay by) }))
 
 -- the code's answers
-abbrev pub handed_length : Measured → Handed Long
-handed_length (measured.Of l) = answer (record { units = l.units })
-handed_length (measured.Refused why) = judged no_length (refusal_row why)
+abbrev pub handed_length : Result Length Refusal → Handed Long
+handed_length = handed no_length (λ l. record { units = l.units }) refusal_row

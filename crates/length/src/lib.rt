@@ -2,14 +2,13 @@
 #![tactic(auto)]
 
 ghost use Rattle.std.specs.Prelude.{◌≡◌};
-ghost use Rattle.length.specs.Units.{units_per_cell};
+ghost use Rattle.length.specs.Units.{units_per_cell, units};
 ghost use Rattle.length.specs.Floats.{in_cells};
 ghost use Rattle.length.specs.Answers.{handed_length, length_row, length_between_row};
 
-use board::{Checked, Refusal};
-use inner::units_of;
-use spans::inner::difference;
-use spans::{check_differences, check_vertices};
+use board::Refusal;
+use inner::units_of_square;
+use spans::Span;
 
 pub mod inner;
 
@@ -19,11 +18,16 @@ pub struct Length {
     pub units: u64,
 }
 
-// A leg's length, or the row that refuses it: 4 (first vertex, or dx) or 5 (second vertex, or dy).
-#[derive(Clone, Copy)]
-pub enum Measured {
-    Of(Length),
-    Refused(Refusal),
+// The length of a leg whose differences passed the checks.
+impl From<Span> for Length {
+    ghost from_gives = { λ span length. length.units ≡ units span.dx span.dy };
+
+    fn from(span: Span) -> Length {
+        let x = u64::from(span.dx.unsigned_abs());
+        let y = u64::from(span.dy.unsigned_abs());
+        let units = units_of_square(x * x + y * y);
+        Length { units }
+    }
 }
 
 impl Length {
@@ -37,33 +41,22 @@ impl Length {
         Self::UNITS_PER_CELL
     }
 
-    // The length of a leg by its differences.
-    pub fn of(dx: i32, dy: i32) -> Measured
+    // The length of a leg by its differences, or refusal 4 (dx) or 5 (dy).
+    pub fn of(dx: i32, dy: i32) -> Result<Length, Refusal>
         ensures { handed_length result ≡ length_row dx dy }
     {
-        match check_differences(dx, dy) {
-            Checked::Accepted => {
-                let units = units_of(dx, dy);
-                Measured::Of(Length { units })
-            }
-            Checked::Refused(why) => Measured::Refused(why),
-        }
+        Span::of(dx, dy).map(Length::from)
     }
 
-    // The length of a leg by its vertices.
-    pub fn between(ax: usize, ay: usize, bx: usize, by: usize) -> Measured
+    // The length of a leg by its vertices, or refusal 4 (the first) or 5 (the second).
+    pub fn between(ax: usize, ay: usize, bx: usize, by: usize) -> Result<Length, Refusal>
         ensures { handed_length result ≡ length_between_row ax ay bx by }
     {
-        match check_vertices(ax, ay, bx, by) {
-            Checked::Accepted => {
-                let units = units_of(difference(ax, bx), difference(ay, by));
-                Measured::Of(Length { units })
-            }
-            Checked::Refused(why) => Measured::Refused(why),
-        }
+        Span::between(ax, ay, bx, by).map(Length::from)
     }
 
     // The length in cells: with nothing lost below 2^53 units, else from the nearest f64.
+    #[tactic(auto, unfolding(crate::specs::Floats::in_cells))]
     pub fn cells(self) -> f64
         ensures { result ≡ in_cells self.units }
     {

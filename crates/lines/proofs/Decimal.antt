@@ -4,7 +4,7 @@ use mathlib.Core.Path.{◌≡◌, sym, ap, ◌∙◌}
 use mathlib.Core.Logic.{⊎_elim}
 use mathlib.Core.Bool.{cond}
 use mathlib.Core.List.{List, [], ◌∷◌, ◌++◌}
-use native.Mathlib.Nat.{div-lt_self, div-lt_iff_lt-mul, mod-eq_of_lt, pow-suc, lt_of_lt_of_le}
+use native.Mathlib.Nat.{div-lt_self, div-lt_iff_lt-mul, mod-eq_of_lt, pow-suc, one-le-pow, lt_of_lt_of_le}
 use native.Mathlib.Omega.{arith}
 use lib.Dec.{ltb, lit<, lit≤}
 use lib.ListN.{length, length-append}
@@ -59,6 +59,15 @@ few_below (suc k) n b =
     (λ (s : n < 10). omega (arith, count_one n s))
     (λ (l : 10 ≤ n). omega (arith, count_more n l, few_below k (n / 10) (tenth.1 b')))
     (order n 10)
+
+-- a number from 10 ^ k up to the next power has one more digit than k
+pub count_power : (k n : ℕ) → 10 ^ k ≤ n → n < 10 * 10 ^ k → length (decimal n) ≡ k + 1
+count_power zero n a b = count_one n b
+count_power (suc k) n a b =
+    let p : 10 ^ suc k ≡ 10 ^ k * 10 = pow-suc 10 k in
+    let some : 1 ≤ 10 ^ k = one-le-pow k 10 (lit< tt) in
+    let tenth = count_power k (n / 10) (omega arith) (omega arith) in
+    omega (arith, count_more n (omega arith), tenth)
 
 pub few_digits : (n : ℕ) → n < 2 ^ 64 → length (decimal n) ≤ most_digits
 few_digits n b = few_below 19 n (lt_of_lt_of_le b (lit≤ {m = 2 ^ 64} {n = 10 ^ 20} tt))

@@ -14,13 +14,6 @@ use Rattle.lines.specs.Inner.{Two, Three, Placed, numbered, path_end}
 take_more : (l : List ℕ) (i : ℕ) → i < length l → take (i + 1) l ≡ take i l ++ (get_or l i 0 ∷ [])
 take_more l i b = rw (add-one i) (take-suc l i 0 b)
 
--- a list is what has been taken, the next entry and the rest
-pub text_parts : (l : List ℕ) (i : ℕ) → i < length l → l ≡ (take i l ++ (get_or l i 0 ∷ [])) ++ drop (i + 1) l
-text_parts l i b = sym (take-append-drop (i + 1) l) ∙ ap (λ (t : List ℕ). t ++ drop (i + 1) l) (take_more l i b)
-
-pub text_more : (l : List ℕ) (i : ℕ) → i < length l → take i l ++ (get_or l i 0 ∷ []) ≡ take (i + 1) l
-text_more l i b = sym (take_more l i b)
-
 -- ---- vertices
 
 module _ (width v : ℕ) {x y : ℕ} (p : Placed (max width 1) v x y) where

@@ -12,13 +12,13 @@ use borrow.Author.Tests.{leb-true, leb-false, lt-ltb, le-ltb}
 use Rattle.laws.proofs.Tests.{order}
 use Rattle.laws.proofs.Determined.{undone}
 use Rattle.board.specs.Handed.{Handed}
-use Rattle.lines.specs.declared.Answer.{Answer}
-use Rattle.lines.specs.declared.Answer.TheVariants.{Written, Short}
+use Rattle.std.specs.Prelude.{Result, Ok, Err}
+use Rattle.lines.specs.declared.Short.{Short}
 use Rattle.lines.specs.Answers.{handed_line, line_row, line_after, LineWritten}
 use Rattle.lines.specs.Inner.{Put, Room}
 
 module _ {bytes before : List ℕ} where
-  pub line_refused : leb (length bytes) (length before) ≡ false → LineWritten bytes before (handed_line Short) before
+  pub line_refused : {why : Short} → leb (length bytes) (length before) ≡ false → LineWritten bytes before (handed_line (Err why)) before
   unfolding line_row line_after
   line_refused e =
       let t = lt-ltb (length before) (length bytes) (leb-false (length bytes) (length before) e) in
@@ -28,7 +28,7 @@ module _ {bytes before : List ℕ} where
   line_room_lem e = record { room = omega (arith, leb-true (length bytes) (length before) e) }
 
   pub line_written : leb (length bytes) (length before) ≡ true → {r : ℕ} {after : List ℕ} → Put bytes before 0 r after
-      → LineWritten bytes before (handed_line (Written r)) after
+      → LineWritten bytes before (handed_line (Ok r)) after
   unfolding line_row line_after
   line_written e {r} {after} p =
       let t = le-ltb (length before) (length bytes) (leb-true (length bytes) (length before) e) in
@@ -43,7 +43,7 @@ pub record Front (bytes after : List ℕ) (n : ℕ) : Type 0 where
   pub line : take n after ≡ bytes
   pub count : n ≡ length (take n after)
 
-front_of : {bytes before after : List ℕ} {n : ℕ} → LineWritten bytes before (handed_line (Written n)) after → Front bytes after n
+front_of : {bytes before after : List ℕ} {n : ℕ} → LineWritten bytes before (handed_line (Ok n)) after → Front bytes after n
 unfolding line_row line_after
 front_of {bytes} {before} {after} {n} w =
     ⊎_elim
@@ -61,34 +61,34 @@ front_of {bytes} {before} {after} {n} w =
     record { within = omega (arith, size, e); line = front; count = e ∙ sym (ap length front) })
     (order (length before) (length bytes))
 
-pub line_front : {bytes before after : List ℕ} {n : ℕ} {r : Answer} → LineWritten bytes before (handed_line r) after → r ≡ Written n
+pub line_front : {bytes before after : List ℕ} {n : ℕ} {r : Result ℕ Short} → LineWritten bytes before (handed_line r) after → r ≡ Ok n
     → Front bytes after n
-line_front {bytes} {before} {after} w e = front_of (subst (λ (x : Answer). LineWritten bytes before (handed_line x) after) e w)
+line_front {bytes} {before} {after} w e = front_of (subst (λ (x : Result ℕ Short). LineWritten bytes before (handed_line x) after) e w)
 
 -- a line that has room is not refused
-has_room : {bytes before after : List ℕ} → length bytes ≤ length before → LineWritten bytes before (handed_line Short) after → ⊥
+has_room : {bytes before after : List ℕ} {why : Short} → length bytes ≤ length before → LineWritten bytes before (handed_line (Err why)) after → ⊥
 unfolding line_row
 has_room {bytes} {before} l w =
     let written = rw (le-ltb (length before) (length bytes) l) at w.row_is in
     let z : ◌≡◌ {A = ℕ} 21 0 = ap (λ (h : Handed ℕ). h.number) written in
     omega arith
 
-pub line_has_room : {bytes before after : List ℕ} {r : Answer} → length bytes ≤ length before
-    → LineWritten bytes before (handed_line r) after → r ≡ Short → ⊥
-line_has_room {bytes} {before} {after} l w e = has_room l (subst (λ (x : Answer). LineWritten bytes before (handed_line x) after) e w)
+pub line_has_room : {bytes before after : List ℕ} {r : Result ℕ Short} {why : Short} → length bytes ≤ length before
+    → LineWritten bytes before (handed_line r) after → r ≡ Err why → ⊥
+line_has_room {bytes} {before} {after} l w e = has_room l (subst (λ (x : Result ℕ Short). LineWritten bytes before (handed_line x) after) e w)
 
 -- ---- a line is determined
 
 -- the answer that hands something back
-answer_of : Handed ℕ → Answer
-answer_of h = cond (eqb h.number 0) (Written h.values) Short
+answer_of : Handed ℕ → Result ℕ Short
+answer_of h = cond (eqb h.number 0) (Ok h.values) (Err (record {}))
 
-answer_back : (r : Answer) → answer_of (handed_line r) ≡ r
+answer_back : (r : Result ℕ Short) → answer_of (handed_line r) ≡ r
 unfolding answer_of
-answer_back (Written n) = refl
-answer_back Short = refl
+answer_back (Ok n) = refl
+answer_back (Err why) = refl
 
 -- any two results that the contract admits are equal
-pub line_determined : {bytes before after after' : List ℕ} {r r' : Answer} → LineWritten bytes before (handed_line r) after
+pub line_determined : {bytes before after after' : List ℕ} {r r' : Result ℕ Short} → LineWritten bytes before (handed_line r) after
     → LineWritten bytes before (handed_line r') after' → (r ≡ r') × (after ≡ after')
 line_determined p q = (undone handed_line answer_of answer_back p.row_is q.row_is, p.after_is ∙ sym q.after_is)

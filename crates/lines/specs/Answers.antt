@@ -1,11 +1,10 @@
 -- What the line call hands back, and what it leaves in the lent slice.
-use Rattle.std.specs.Prelude.{ℕ, ◌≡◌, cond, List, ◌++◌, ltb, length, drop}
-use Rattle.board.specs.Handed.{row, Handed, answer, unless, judged}
+use Rattle.std.specs.Prelude.{ℕ, ◌≡◌, cond, List, ◌++◌, ltb, length, drop, Result}
+use Rattle.board.specs.Handed.{Verdict, row, Handed, answer, unless, handed}
 use Rattle.board.specs.Handed as table
 use Rattle.lines.specs.declared.Line.{Line}
 use Rattle.lines.specs.declared.Line.TheVariants as Line-of
-use Rattle.lines.specs.declared.Answer.{Answer}
-use Rattle.lines.specs.declared.Answer.TheVariants.{Written, Short}
+use Rattle.lines.specs.declared.Short.{Short}
 use Rattle.lines.specs.Lines.{net_line, none_line, refused_line, refused_twice_line}
 
 -- the bytes of each case
@@ -15,10 +14,13 @@ bytes_of (Line-of.None number expansions tests) width path = none_line number ex
 bytes_of (Line-of.Refused number place) width path = refused_line number place
 bytes_of (Line-of.RefusedTwice number place second) width path = refused_twice_line number place second
 
+-- the row of a slice that is too short
+abbrev pub short_row : Short → Verdict
+short_row why = table.refused 21 0 0
+
 -- number, places and value of each case: how many bytes were written
-abbrev pub handed_line : Answer → Handed ℕ
-handed_line (Written bytes) = answer bytes
-handed_line Short = judged 0 (table.refused 21 0 0)
+abbrev pub handed_line : Result ℕ Short → Handed ℕ
+handed_line = handed 0 (λ bytes. bytes) short_row
 
 -- 21: the lent slice is shorter than the line
 unfoldable pub line_row : (bytes : List ℕ) → (lent : ℕ) → Handed ℕ

@@ -4,8 +4,9 @@
 ghost use Rattle.std.specs.Prelude.{◌≡◌};
 ghost use Rattle.board.specs.Limits.{largest_side};
 ghost use Rattle.lines.specs.Lines.{longest_line};
+ghost use Rattle.lines.specs.Answers.{short_row};
 
-use board::MOST;
+use board::{MOST, Numbered, Row};
 
 pub mod inner;
 
@@ -34,15 +35,26 @@ pub enum Line {
     },
 }
 
-// How many bytes the line has, or 21: the lent slice is shorter than the line.
+// The lent slice is shorter than the line: document 01's 21.
 #[derive(Clone, Copy)]
-pub enum Answer {
-    Written(usize),
-    Short,
+pub struct Short;
+
+impl Numbered for Short {
+    ghost row = { short_row };
+
+    fn row(self) -> Row {
+        Row::of(21)
+    }
 }
 
-// The bytes that suffice for every line of a route: words and four numbers of 20 digits, and 6 for each vertex.
-pub const LONGEST_LINE: usize = 31 + 4 * 20 + 6 * MOST;
+// The most bytes of a line without its vertices: words, spaces, the newline and four numbers of 20 digits.
+pub const WORDS: usize = 31 + 4 * 20;
+
+// The most bytes of a vertex: a space, two coordinates of two digits and a comma.
+pub const FIELD: usize = 6;
+
+// The bytes that suffice for every line of a route.
+pub const LONGEST_LINE: usize = WORDS + FIELD * MOST;
 
 pub fn longest_line() -> usize
     ensures { result ≡ longest_line largest_side }

@@ -16,13 +16,14 @@ fn put_vertex(out: &mut [u8], at: usize, width: usize, v: Vertex) -> usize
     put_both(out, at, b" ", place.x as u64, b",", place.y as u64)
 }
 
+// The vertices of a path.
 fn put_path(out: &mut [u8], at: usize, width: usize, path: &[Vertex]) -> usize
     requires { Room (spaced (vertex_fields width path.now)) out.old at }
     ensures { Put (spaced (vertex_fields width path.now)) out.old at result out.new }
 {
     let mut next = at;
-    for i in 0..path.len() {
-        next = put_vertex(out, next, width, path[i]);
+    for v in path {
+        next = put_vertex(out, next, width, *v);
     }
     next
 }

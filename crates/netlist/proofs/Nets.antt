@@ -4,28 +4,50 @@ use mathlib.Core.Path.{◌≡◌}
 use mathlib.Core.Bool.{true}
 use mathlib.Core.List.{List}
 use borrow.Author.Tests.{eqb-true, le-leb, lt-leb}
-use Rattle.laws.specs.Below.{how_many}
-use Rattle.laws.proofs.Below.{indexed_here, many_above, indexed_below, indexed_does_pass}
+use Rattle.laws.proofs.Below.{indexed_below, indexed_does_pass}
 use Rattle.records.specs.Records.{records, byte}
-use Rattle.kinds.specs.declared.Record.TheVariants.{Net, Unknown}
+use Rattle.kinds.specs.declared.Record.TheVariants.{Net}
+use Rattle.kinds.specs.declared.RecordFault.TheVariants.{Unknown}
+use mathlib.Core.Path.{refl}
+use mathlib.Core.Bool.{Bool, false, cond}
+use lib.Dec.{leb}
+use borrow.Author.Tests.{leb-false}
+use Rattle.std.specs.Prelude.{Ok, Err, Some, None}
 use Rattle.kinds.specs.Job.{is_net, net_at, nets, net_record}
 use Rattle.faults.specs.Inner.{Accepted}
-use Rattle.kinds.specs.Inner.{record_at}
-use Rattle.netlist.specs.Inner.{net_said}
+use Rattle.kinds.specs.Inner.{as_said, record_at}
+use Rattle.netlist.specs.Inner.{net_place, net_said}
 use Rattle.faults.proofs.Accepted.{is_tidy}
 
 -- ---- found among the records
 
-module _ (job : List ℕ) where
-  -- a net is the one with as many nets before it
-  pub found_here : {index : ℕ} (i : ℕ) → i < records job → is_net job i ≡ true → how_many i (is_net job) ≡ index → record_at job i ≡ net_said job index
-  unfolding net_said
-  found_here i l n e =
-      rw (← e, lt-leb (nets job) (how_many i (is_net job)) (many_above (is_net job) (records job) i l n), indexed_here (is_net job) (records job) i l n)
+-- a place that was found, and one that was not
+some_place : (b : Bool) (r : ℕ) {i : ℕ} → Some i ≡ cond b None (Some r) → (b ≡ false) × (i ≡ r)
+some_place true r e = cc
+some_place false r e = (refl, cc)
 
-  pub found_none : {index : ℕ} → nets job ≤ index → Unknown ≡ net_said job index
+none_place : (b : Bool) (r : ℕ) → None ≡ cond b None (Some r) → b ≡ true
+none_place true r e = refl
+none_place false r e = cc
+
+module _ (job : List ℕ) (index : ℕ) where
+  pub none_said : None ≡ net_place job index → Err Unknown ≡ net_said job index
   unfolding net_said
-  found_none {index} l = rw (le-leb (nets job) index l)
+  none_said e = rw (none_place (leb (nets job) index) (net_record job index) e) refl
+
+  pub found_none : nets job ≤ index → Err Unknown ≡ net_said job index
+  unfolding net_said
+  found_none l = rw (le-leb (nets job) index l)
+
+  module _ {i : ℕ} (e : Some i ≡ net_place job index) where
+    pub place_below : i < records job
+    place_below =
+        let p = some_place (leb (nets job) index) (net_record job index) e in
+        rw p.1 (indexed_below (is_net job) (records job) index (leb-false (nets job) index p.0))
+
+    pub place_said : record_at job i ≡ net_said job index
+    unfolding net_said
+    place_said = let p = some_place (leb (nets job) index) (net_record job index) e in rw (p.0, p.1) refl
 
 -- ---- in an accepted job
 
@@ -36,7 +58,7 @@ module _ {job : List ℕ} (a : Accepted job) (index : ℕ) (l : index < nets job
   pub net_record_is : is_net job (net_record job index) ≡ true
   net_record_is = indexed_does_pass (is_net job) (records job) index l
 
-  pub said_net : (let i : ℕ = net_record job index in net_said job index ≡ Net (net_at job i).number (net_at job i).sx (net_at job i).sy (net_at job i).gx (net_at job i).gy)
+  pub said_net : net_said job index ≡ Ok (Net (as_said (net_at job (net_record job index))))
   unfolding net_said record_at
   said_net =
       let i : ℕ = net_record job index in

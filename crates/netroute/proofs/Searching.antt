@@ -1,17 +1,17 @@
 -- A net of an accepted job, searched in the program's buffers: its path fits, so a path or none is handed back. Assumes nothing.
-use Prim.Native.Nat.{ℕ, ◌≤◌, ◌<◌}
+use Prim.Native.Nat.{ℕ, ◌≤◌}
 use mathlib.Core.Path.{◌≡◌, refl, sym, ap, ◌∙◌}
-use mathlib.Core.Logic.{◌⊎◌, inl, inr, ⊎_elim}
-use mathlib.Core.Bool.{Bool, true, false, cond}
+use mathlib.Core.Logic.{⊎_elim}
+use mathlib.Core.Bool.{true, false}
 use mathlib.Core.List.{List, [], ◌++◌}
 use native.Mathlib.Omega.{arith}
-use lib.ListN.{length, take, drop, length-append}
+use lib.ListN.{length, drop, length-append}
 use lib.Seq.{drop-nil, take-append_seam}
 use borrow.Author.Tests.{le-ltb}
 use Rattle.laws.proofs.Tests.{bool_cases}
 use Rattle.board.specs.Board.{Board, vertices}
-use Rattle.board.specs.Inner.{Sound, OnBoard}
-use Rattle.board.specs.Handed.{passes, row, Handed, unless, leg_rows}
+use Rattle.board.specs.Inner.{OnBoard}
+use Rattle.board.specs.Handed.{passes, Handed, leg_rows}
 use Rattle.board.proofs.Rows.{leg_sound, leg_first}
 use Rattle.reach.specs.Turns.{at}
 use Rattle.theta.specs.Search.{Problem, search}
@@ -19,7 +19,7 @@ use Rattle.theta.specs.Lent.{state, Searched}
 use Rattle.problem.specs.Problem.{problem}
 use Rattle.problem.proofs.Theorems.{board_work, found_traced, found_path}
 use Rattle.path.proofs.Reading.{path_length}
-use Rattle.answer.specs.Answers.{Route, no_route, found, none, Slices, work_row, search_row, route_row, written, Routed}
+use Rattle.answer.specs.Answers.{Route, found, none, Slices, work_row, search_row, route_row, Routed}
 use Rattle.router.proofs.Demands.{route_rightly}
 use Rattle.netroute.specs.Limits.{vertex_room}
 use Rattle.netroute.specs.Inner.{path_of, result, Found}

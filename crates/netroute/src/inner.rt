@@ -7,7 +7,7 @@ ghost use Rattle.netroute.specs.Limits.{vertex_room};
 ghost use Rattle.netroute.specs.Inner.{Found};
 
 use crate::VERTICES;
-use answer::Answer;
+use answer::{Answer, RequestRefusal};
 use board::Vertex;
 use router::route;
 
@@ -21,7 +21,7 @@ pub fn search_net(
     gx: usize,
     gy: usize,
     path: &mut [Vertex],
-) -> Answer
+) -> Result<Answer, RequestRefusal>
     requires gy_value { leg_rows (board cells.now width height) sx sy gx gy ≡ passes }
     requires vertex_room_in_bounds { vertex_room ≤ length path.old }
     ensures { Found (board cells.now width height) sx sy gx gy (handed_route result) path.new }

@@ -7,7 +7,7 @@ use mathlib.Core.List.{List}
 use native.Mathlib.Nat.{mul-le-mul_left}
 use native.Mathlib.Omega.{arith}
 use lib.ListN.{length, take}
-use borrow.Author.Tests.{eqb-false, lt-leb}
+use borrow.Author.Tests.{lt-leb}
 use Rattle.laws.proofs.Tests.{bool_cases}
 use Rattle.board.specs.Board.{Board, board, vertices}
 use Rattle.board.specs.Handed.{passes, Handed, leg_rows}
@@ -18,10 +18,8 @@ use Rattle.problem.specs.Problem.{problem}
 use Rattle.problem.proofs.Theorems.{board_route}
 use Rattle.kinds.specs.Job.{nets, Net}
 use Rattle.faults.specs.Inner.{Accepted}
-use Rattle.refusals.proofs.Refusing.{listed, not_own}
-use Rattle.job.specs.declared.NetAnswer.{NetAnswer}
-use Rattle.job.specs.declared.NetAnswer.TheVariants as net-read
-use Rattle.job.specs.Answers.{handed_net, net_row}
+use Rattle.std.specs.Prelude.{None}
+use Rattle.job.specs.Answers.{handed_found, net_row}
 use Rattle.job.proofs.Above.{BoardGiven, NetGiven, given_net_passes}
 use Rattle.answer.specs.Answers.{Route}
 use Rattle.netroute.specs.Limits.{widest}
@@ -33,15 +31,9 @@ use Rattle.replies.specs.Inner.{Answered}
 use Rattle.nets.specs.Inner.{Opened}
 
 -- a net with an index below their number is there
-pub net_there : {job : List ℕ} {index : ℕ} → Accepted job → index < nets job → (r : NetAnswer)
-    → ((n sx sy gx gy : ℕ) → r ≡ net-read.Net n sx sy gx gy → ⊥) → handed_net r ≡ net_row job index → ⊥
+pub net_there : {job : List ℕ} {index : ℕ} → Accepted job → index < nets job → handed_found None ≡ net_row job index → ⊥
 unfolding net_row
-net_there a l (net-read.Net n sx sy gx gy) k e = k n sx sy gx gy refl
-net_there {job} {index} a l (net-read.Refused why) k e =
-    let w = listed why in
-    let z = ap (λ (x : Handed Net). x.number) (rw (a.passed, lt-leb (nets job) index l, w.row_is) at e) in
-    eqb-false w.number 0 (not_own w 0 refl) z
-net_there {job} {index} a l net-read.NoNet k e =
+net_there {job} {index} a l e =
     let z : ◌≡◌ {A = ℕ} 20 0 = ap (λ (x : Handed Net). x.number) (rw (a.passed, lt-leb (nets job) index l) at e) in
     omega arith
 

@@ -5,68 +5,52 @@ ghost use Rattle.replies.specs.Inner.{AllSent};
 ghost use Rattle.nets.specs.Inner.{Opened};
 
 use board::Vertex;
-use job::NetAnswer;
+use job::Sides;
 use job::inner::net_at;
 use netroute::VERTICES;
 use netroute::inner::search_net;
-use replies::inner::{Sent, print_answer};
+use replies::inner::{LostAfter, print_answer};
+use streams::Lost;
 
 // Routes the net with that index, and prints its line.
 fn print_net<R: Print + Eprint + AllocGlobal>(
     rt: &R,
     job: &[u8],
     cells: &[u8],
-    width: usize,
-    height: usize,
-    nets: usize,
+    sides: Sides,
     index: usize,
     buffer: &mut [u8],
-) -> bool
-    requires opened { Opened job.now cells.now width height nets }
-    requires index_lt_nets { index < nets }
+) -> Result<(), Lost>
+    requires opened { Opened job.now cells.now sides.width sides.height sides.nets }
+    requires index_lt_nets { index < sides.nets }
     requires line_room_in_bounds { line_room ≤ length buffer.old }
 {
-    let NetAnswer::Net {
-        number,
-        sx,
-        sy,
-        gx,
-        gy,
-    } = net_at(job, index)
-    else {
+    let Some(net) = net_at(job, index) else {
         unreachable!()
     };
+    let Sides { width, height, .. } = sides;
     let mut path = [0 as Vertex; VERTICES];
-    let answer = search_net(cells, width, height, sx, sy, gx, gy, &mut path);
-    print_answer(rt, job, index, number as u64, answer, width, &path, buffer)
+    let answer = search_net(
+        cells, width, height, net.sx, net.sy, net.gx, net.gy, &mut path,
+    );
+    let number = net.number as u64;
+    print_answer(rt, job, index, number, answer, width, &path, buffer)
 }
 
-// A line for each net, in order, until one is lost.
+// A line for each net, in order, until one is lost. How many lines were sent.
 pub fn print_nets<R: Print + Eprint + AllocGlobal>(
     rt: &R,
     job: &[u8],
     cells: &[u8],
-    width: usize,
-    height: usize,
-    nets: usize,
+    sides: Sides,
     buffer: &mut [u8],
-) -> Sent
-    requires opened { Opened job.now cells.now width height nets }
+) -> Result<usize, LostAfter>
+    requires opened { Opened job.now cells.now sides.width sides.height sides.nets }
     requires line_room_in_bounds { line_room ≤ length buffer.old }
     ensures { AllSent job.now result }
 {
-    let mut sent = 0;
-    while sent < nets {
-        if !print_net(rt, job, cells, width, height, nets, sent, buffer) {
-            return Sent {
-                lines: sent,
-                lost: true,
-            };
-        }
-        sent += 1;
+    for index in 0..sides.nets {
+        print_net(rt, job, cells, sides, index, buffer).map_err(|_| LostAfter { lines: index })?;
     }
-    Sent {
-        lines: sent,
-        lost: false,
-    }
+    Ok(sides.nets)
 }

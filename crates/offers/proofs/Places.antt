@@ -2,7 +2,6 @@
 use mathlib.Core.Path.{◌≡◌, refl, sym, ap, ◌∙◌}
 use mathlib.Core.Logic.{◌≢◌}
 use mathlib.Core.Bool.{Bool, true, false, not, ◌&&◌, ◌||◌, and-true}
-use mathlib.Core.List.{List}
 use Prim.Native.Nat.{ℕ, ◌+◌, ◌*◌, ◌≤◌, ◌<◌}
 use native.Mathlib.Nat.{suc-mul, mul-le-mul_right}
 use native.Mathlib.Omega.{arith}
@@ -19,7 +18,7 @@ use Rattle.legs.specs.Pinched.{pinched, admitted}
 use Rattle.legs.specs.Neighbours.{neighbours, visible}
 use Rattle.legs.proofs.Visible.{visible_neighbours, visible_sees, visible_below}
 use Rattle.reach.specs.Turns.{at}
-use Rattle.offers.specs.declared.Request.{Request}
+use Rattle.offers.specs.declared.request.Request.{Request}
 use Rattle.offers.specs.declared.Spot.{Spot}
 use Rattle.theta.specs.Search.{State}
 use Rattle.problem.specs.Problem.{problem}
@@ -47,44 +46,44 @@ module _ {b : Board} {s : Spot} (P : Placed b s) where
 same_place : {b : Board} {s t : Spot} → Placed b s → Placed b t → s.x ≡ t.x → s.y ≡ t.y → s.number ≡ t.number
 same_place P Q e f = P.numbered ∙ rw (e, f) (sym Q.numbered)
 
-module _ (cells : List ℕ) (q : Request) where
-  module _ {s t : Spot} (P : Placed (board_of cells q) s) (Q : Placed (board_of cells q) t) where
-    sees_placed : (asked cells q).sees s.number t.number ≡ sees (board_of cells q) s.x s.y t.x t.y
+module _ (q : Request) where
+  module _ {s t : Spot} (P : Placed (board_of q) s) (Q : Placed (board_of q) t) where
+    sees_placed : (asked q).sees s.number t.number ≡ sees (board_of q) s.x s.y t.x t.y
     unfolding problem
     sees_placed = rw (placed_column P, placed_row P, placed_column Q, placed_row Q) refl
 
-    len_placed : (asked cells q).len s.number t.number ≡ units (step s.x t.x) (step s.y t.y)
+    len_placed : (asked q).len s.number t.number ≡ units (step s.x t.x) (step s.y t.y)
     unfolding problem
     len_placed = rw (placed_column P, placed_row P, placed_column Q, placed_row Q) refl
 
   -- the leg from the parent or from u itself, as the sight test tells, is what w is offered
-  module _ {from u w : Spot} (F : Placed (board_of cells q) from) (U : Placed (board_of cells q) u) (W : Placed (board_of cells q) w)
-      {seen : Bool} (told : seen ≡ sees (board_of cells q) from.x from.y w.x w.y) {parent length : ℕ} where
+  module _ {from u w : Spot} (F : Placed (board_of q) from) (U : Placed (board_of q) u) (W : Placed (board_of q) w)
+      {seen : Bool} (told : seen ≡ sees (board_of q) from.x from.y w.x w.y) {parent length : ℕ} where
     pub offered_parent : seen ≡ true → parent ≡ from.number → length ≡ units (step from.x w.x) (step from.y w.y)
-        → Offered (asked cells q) u.number from.number w.number parent length
+        → Offered (asked q) u.number from.number w.number parent length
     offered_parent e f g =
         record { parent_is = rw (sees_placed F W, ← told, e) f; units_are = rw f (g ∙ sym (len_placed F W)) }
 
     pub offered_own : seen ≡ false → parent ≡ u.number → length ≡ units (step u.x w.x) (step u.y w.y)
-        → Offered (asked cells q) u.number from.number w.number parent length
+        → Offered (asked q) u.number from.number w.number parent length
     offered_own e f g =
         record { parent_is = rw (sees_placed F W, ← told, e) f; units_are = rw f (g ∙ sym (len_placed U W)) }
 
   -- a spot that is not pinched is admitted; one that is pinched, if it is the start or the goal
-  module _ {s : Spot} (P : Placed (board_of cells q) s) {r : Bool} (e : r ≡ pinched (board_of cells q) s.x s.y) where
-    pub open_admitted : r ≡ false → true ≡ admits cells q s.number
+  module _ {s : Spot} (P : Placed (board_of q) s) {r : Bool} (e : r ≡ pinched (board_of q) s.x s.y) where
+    pub open_admitted : r ≡ false → true ≡ admits q s.number
     unfolding admitted
     open_admitted z = rw (placed_column P, placed_row P, ← e, z) refl
 
-    pub pinched_admitted : r ≡ true → {v w : ℕ} → v ≡ number_of q.width q.sx q.sy
-        → w ≡ number_of q.width q.gx q.gy
-        → (eqb s.number v || eqb s.number w) ≡ admits cells q s.number
+    pub pinched_admitted : r ≡ true → {v w : ℕ} → v ≡ number_of q.guarded.board.width q.sx q.sy
+        → w ≡ number_of q.guarded.board.width q.gx q.gy
+        → (eqb s.number v || eqb s.number w) ≡ admits q s.number
     unfolding admitted
     pinched_admitted z a b = rw (placed_column P, placed_row P, ← e, z, a, b) refl
 
 -- ---- beside a vertex
 
-module _ {cells : List ℕ} {q : Request} {u w : Spot} (P : Placed (board_of cells q) u) (B : Beside cells q u w) (d : w.number ≢ u.number) where
+module _ {q : Request} {u w : Spot} (P : Placed (board_of q) u) (B : Beside q u w) (d : w.number ≢ u.number) where
   beside_neighbours : neighbours u.x u.y w.x w.y ≡ true
   unfolding neighbours
   beside_neighbours = and_both (differ (ℕ_discrete u.x w.x) (ℕ_discrete u.y w.y)) (and_both (and_both left right) (and_both above below))
@@ -107,7 +106,7 @@ module _ {cells : List ℕ} {q : Request} {u w : Spot} (P : Placed (board_of cel
       differ (yes e) (no f) = rw (ne_eqb u.y w.y f, and_false (eqb u.x w.x) refl) refl
 
   -- it is near if it is admitted, where u is admitted
-  pub beside_near : admits cells q u.number ≡ true → admits cells q w.number ≡ (asked cells q).near u.number w.number
+  pub beside_near : admits q u.number ≡ true → admits q w.number ≡ (asked q).near u.number w.number
   unfolding problem visible
   beside_near a =
       rw (
@@ -120,29 +119,29 @@ module _ {cells : List ℕ} {q : Request} {u w : Spot} (P : Placed (board_of cel
         beside_neighbours,
         a,
         B.seen,
-      ) (sym (and-true (admits cells q w.number)))
+      ) (sym (and-true (admits q w.number)))
 
 -- ---- near it
 
-module _ (cells : List ℕ) (q : Request) {u : Spot} (P : Placed (board_of cells q) u) (v : ℕ) (h : (asked cells q).near u.number v ≡ true) where
-  pub near_neighbours : neighbours u.x u.y (column_of q.width v) (row_of q.width v) ≡ true
+module _ (q : Request) {u : Spot} (P : Placed (board_of q) u) (v : ℕ) (h : (asked q).near u.number v ≡ true) where
+  pub near_neighbours : neighbours u.x u.y (column_of q.guarded.board.width v) (row_of q.guarded.board.width v) ≡ true
   unfolding problem
-  near_neighbours = rw (placed_column P, placed_row P) at (visible_neighbours (board_of cells q) _ _ u.number v h)
+  near_neighbours = rw (placed_column P, placed_row P) at (visible_neighbours (board_of q) _ _ u.number v h)
 
-  pub near_seen : sees (board_of cells q) u.x u.y (column_of q.width v) (row_of q.width v) ≡ true
+  pub near_seen : sees (board_of q) u.x u.y (column_of q.guarded.board.width v) (row_of q.guarded.board.width v) ≡ true
   unfolding problem
-  near_seen = rw (placed_column P, placed_row P) at (visible_sees (board_of cells q) _ _ u.number v h)
+  near_seen = rw (placed_column P, placed_row P) at (visible_sees (board_of q) _ _ u.number v h)
 
   pub near_below : v < size_of q
   unfolding problem
-  near_below = visible_below (board_of cells q) _ _ u.number v h
+  near_below = visible_below (board_of q) _ _ u.number v h
 
 -- ---- the vertices that have been seen are admitted, and the taken one among them
 
-module _ {cells : List ℕ} {q : Request} {u from : Spot} {s : State} (T : Taken cells q u from s) where
-  pub seen_admitted : (v : ℕ) → v < size_of q → at s.mark v ≢ 0 → admits cells q v ≡ true
+module _ {q : Request} {u from : Spot} {s : State} (T : Taken q u from s) where
+  pub seen_admitted : (v : ℕ) → v < size_of q → at s.mark v ≢ 0 → admits q v ≡ true
   unfolding problem
-  seen_admitted v l h = reached_admitted (board_of cells q) _ _ (T.ready.reached v l h)
+  seen_admitted v l h = reached_admitted (board_of q) _ _ (T.ready.reached v l h)
 
-  pub taken_admitted : admits cells q u.number ≡ true
+  pub taken_admitted : admits q u.number ≡ true
   taken_admitted = seen_admitted u.number (placed_below T.placed) (λ e. omega (arith, T.ready.done))

@@ -3,29 +3,28 @@ use Rattle.std.specs.Prelude.{◌≡◌, ◌≢◌, true, cond, List, ℕ, ◌+�
 use Rattle.legs.specs.Sight.{sees}
 use Rattle.open.specs.Marked.{Sited, Lower, Listed}
 use Rattle.reach.specs.Turns.{at}
-use Rattle.offers.specs.declared.Request.{Request}
+use Rattle.offers.specs.declared.request.Request.{Request}
 use Rattle.offers.specs.declared.Spot.{Spot}
 use Rattle.theta.specs.Search.{Problem, State}
 use Rattle.theta.specs.Lent.{Ready}
 use Rattle.problem.specs.Sizes.{largest}
-use Rattle.offers.specs.Request.{board_of, asked, admits, size_of, Asked, Placed}
+use Rattle.offers.specs.Request.{board_of, asked, admits, size_of, Placed}
 
 -- the taken vertex u and its parent
-pub record Taken (cells : List ℕ) (q : Request) (u from : Spot) (s : State) : Type 0 where
-  pub asked_for : Asked cells q
-  pub placed : Placed (board_of cells q) u
-  pub placed_parent : Placed (board_of cells q) from
+pub record Taken (q : Request) (u from : Spot) (s : State) : Type 0 where
+  pub placed : Placed (board_of q) u
+  pub placed_parent : Placed (board_of q) from
   pub parent_is : at s.parent u.number ≡ from.number
-  pub ready : Ready (asked cells q) (largest q.width q.height) u.number s
+  pub ready : Ready (asked q) (largest q.guarded.board.width q.guarded.board.height) u.number s
 
 -- w is a vertex of the board that u sees, and neither coordinate differs by more than 1 from u's
-pub record Beside (cells : List ℕ) (q : Request) (u w : Spot) : Type 0 where
-  pub placed : Placed (board_of cells q) w
+pub record Beside (q : Request) (u w : Spot) : Type 0 where
+  pub placed : Placed (board_of q) w
   pub left : u.x ≤ w.x + 1
   pub right : w.x ≤ u.x + 1
   pub above : u.y ≤ w.y + 1
   pub below : w.y ≤ u.y + 1
-  pub seen : sees (board_of cells q) u.x u.y w.x w.y ≡ true
+  pub seen : sees (board_of q) u.x u.y w.x w.y ≡ true
 
 -- w, a neighbour of u, is offered the leg from a parent: from u's own if that sees w, else from u
 pub record Offered (p : Problem) (u from w parent units : ℕ) : Type 0 where
@@ -33,22 +32,21 @@ pub record Offered (p : Problem) (u from w parent units : ℕ) : Type 0 where
   pub units_are : units ≡ p.len parent w
 
 -- it is not u, which is admitted; and so is w, if its mark says that it has been seen
-pub record Judging (cells : List ℕ) (q : Request) (u w : Spot) (mark : ℕ) : Type 0 where
-  pub asked_for : Asked cells q
-  pub placed : Placed (board_of cells q) u
-  pub beside : Beside cells q u w
+pub record Judging (q : Request) (u w : Spot) (mark : ℕ) : Type 0 where
+  pub placed : Placed (board_of q) u
+  pub beside : Beside q u w
   pub apart : w.number ≢ u.number
-  pub admitted : admits cells q u.number ≡ true
-  pub seen_admitted : mark ≢ 0 → admits cells q w.number ≡ true
+  pub admitted : admits q u.number ≡ true
+  pub seen_admitted : mark ≢ 0 → admits q w.number ≡ true
 
 -- the open list of the board is right
 abbrev pub ListedFor : Request → (g mark legs leads keys : List ℕ) → Type 0
-ListedFor q g mark legs leads keys = Listed q.width q.height q.gx q.gy g mark legs leads keys
+ListedFor q g mark legs leads keys = Listed q.guarded.board.width q.guarded.board.height q.gx q.gy g mark legs leads keys
 
 -- w can get the g `own`, the parent c and so many legs
 pub record Settling (q : Request) (w : Spot) (c own count : ℕ) (s : State) : Type 0 where
-  pub sited : Sited q.width q.height w.x w.y q.gx q.gy
-  pub lower : Lower q.width w.x w.y w.number own count s.g s.mark s.legs
+  pub sited : Sited q.guarded.board.width q.guarded.board.height w.x w.y q.gx q.gy
+  pub lower : Lower q.guarded.board.width w.x w.y w.number own count s.g s.mark s.legs
   pub on_parent : c < size_of q
   pub room_p : size_of q ≤ length s.parent
 

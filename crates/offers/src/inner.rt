@@ -1,62 +1,51 @@
 // What a neighbour w of a taken vertex u is offered, whether it is visible, and how it takes the offer. Each call says what it requires.
-ghost use Rattle.std.specs.Prelude.{◌≡◌, ◌||◌, ◌+◌, ◌≤◌, ◌<◌, eqb, ltb, length};
-ghost use Rattle.board.specs.Limits.{largest_side, most_vertices};
+ghost use Rattle.std.specs.Prelude.{◌≡◌, ◌||◌, ◌+◌, ◌<◌, eqb, ltb, length};
+ghost use Rattle.board.specs.Limits.{most_vertices};
 ghost use Rattle.spans.specs.Legs.{step};
-ghost use Rattle.length.specs.Units.{square, units};
-ghost use Rattle.offers.specs.Request.{board_of, asked, admits, diagonal, Asked, Placed};
-ghost use Rattle.guard.specs.Guard.{Guarded};
-ghost use Rattle.table.specs.Lengths.{Known};
+ghost use Rattle.length.specs.Units.{units};
+ghost use Rattle.offers.specs.Request.{board_of, asked, admits, Placed};
 ghost use Rattle.offers.specs.Offers.{Offered, Judging, ListedFor, Settling, Settled};
 ghost use Rattle.reach.specs.Turns.{at};
 ghost use Rattle.theta.specs.Order.{less_or};
 ghost use Rattle.theta.specs.Lent.{state};
 
-use crate::{Offer, Request, Spot};
+use crate::request::Request;
+use crate::{Offer, Spot};
 use board::Vertex;
 use board::inner::number_of;
 use glance::inner::is_pinched;
+use legs::leg::Leg;
 use open::list::open_vertex;
 use table::inner::units_between;
 use walks::inner::sees;
 
 // The leg from one vertex to another as an offer.
-fn leg_from(from: Spot, w: Spot, table: &[u32]) -> Offer
-    requires x_le_largest_side { (from.x ≤ largest_side) × (from.y ≤ largest_side) × (w.x ≤ largest_side) × (w.y ≤ largest_side) }
-    requires known { Known (square (step from.x w.x) (step from.y w.y)) table.now }
+fn leg_from(request: &Request<'_, '_>, from: Spot, w: Spot) -> Offer
+    requires { Placed (board_of request.now) from × Placed (board_of request.now) w }
     ensures { (result.parent ≡ from.number) × (result.units ≡ units (step from.x w.x) (step from.y w.y)) }
 {
     Offer {
         parent: from.number,
-        units: units_between(from.x, from.y, w.x, w.y, table),
+        units: units_between(from.x, from.y, w.x, w.y, request.table),
     }
 }
 
 // What the neighbour w is offered, by one sight test: the leg from the taken vertex's parent if that sees w, else from u itself.
-pub fn candidate(
-    cells: &[u8],
-    request: Request,
-    u: Spot,
-    parent: Spot,
-    w: Spot,
-    table: &[u32],
-) -> Offer
-    requires asked { Asked cells.now request }
-    requires placed { Placed (board_of cells.now request) u × Placed (board_of cells.now request) parent × Placed (board_of cells.now request) w }
-    requires known { Known (diagonal request) table.now }
-    ensures { Offered (asked cells.now request) u.number parent.number w.number result.parent result.units }
+pub fn candidate(request: &Request<'_, '_>, u: Spot, parent: Spot, w: Spot) -> Offer
+    requires { Placed (board_of request.now) u × Placed (board_of request.now) parent × Placed (board_of request.now) w }
+    ensures { Offered (asked request.now) u.number parent.number w.number result.parent result.units }
 {
-    if sees(
-        cells,
-        request.width,
-        request.height,
-        parent.x,
-        parent.y,
-        w.x,
-        w.y,
-    ) {
-        return leg_from(parent, w, table);
+    let leg = Leg {
+        board: request.guarded.board,
+        ax: parent.x,
+        ay: parent.y,
+        bx: w.x,
+        by: w.y,
+    };
+    if sees(&leg) {
+        return leg_from(request, parent, w);
     }
-    leg_from(u, w, table)
+    leg_from(request, u, w)
 }
 
 // The legs of a vertex that has this parent.
@@ -82,7 +71,7 @@ pub fn wins(mark: u8, own: u64, count: Vertex, old: u64, had: Vertex) -> bool
 
 // The vertex w opens, or gets what is better: the g `own`, this parent and so many legs, and it enters the open list.
 pub fn settle(
-    request: Request,
+    request: &Request<'_, '_>,
     w: Spot,
     parent: usize,
     own: u64,
@@ -93,17 +82,15 @@ pub fn settle(
     legs: &mut [Vertex],
     leads: &mut [Vertex],
     keys: &mut [u64],
-    table: &[u32],
 )
-    requires settling { Settling request w parent own count (state g.old parents.old marks.old legs.old 0 0) }
-    requires listed_for { ListedFor request g.old marks.old legs.old leads.old keys.old }
-    requires known { Known (diagonal request) table.now }
-    ensures { Settled request w parent own count (state g.old parents.old marks.old legs.old 0 0) (state g.new parents.new marks.new legs.new 0 0) leads.new keys.new }
+    requires settling { Settling request.now w parent own count (state g.old parents.old marks.old legs.old 0 0) }
+    requires listed_for { ListedFor request.now g.old marks.old legs.old leads.old keys.old }
+    ensures { Settled request.now w parent own count (state g.old parents.old marks.old legs.old 0 0) (state g.new parents.new marks.new legs.new 0 0) leads.new keys.new }
 {
     let v = w.number;
     open_vertex(
-        request.width,
-        request.height,
+        request.guarded.board.width,
+        request.guarded.board.height,
         w.x,
         w.y,
         request.gx,
@@ -116,34 +103,32 @@ pub fn settle(
         legs,
         leads,
         keys,
-        table,
+        request.table,
     );
     parents[v] = parent as Vertex;
 }
 
 // Whether w may be passed in this search: it is not pinched, or it is the start or the goal.
-fn is_admitted(cells: &[u8], guard: &[u8], request: Request, w: Spot) -> bool
-    requires asked { Asked cells.now request }
-    requires placed { Placed (board_of cells.now request) w }
-    requires guarded { Guarded (board_of cells.now request) guard.now }
-    ensures { result ≡ admits cells.now request w.number }
+fn is_admitted(request: &Request<'_, '_>, w: Spot) -> bool
+    requires { Placed (board_of request.now) w }
+    ensures { result ≡ admits request.now w.number }
 {
-    if !is_pinched(cells, guard, request.width, request.height, w.x, w.y) {
+    if !is_pinched(&request.guarded, w.x, w.y) {
         return true;
     }
-    let start = number_of(request.width, request.sx, request.sy) as usize;
-    let goal = number_of(request.width, request.gx, request.gy) as usize;
+    let width = request.guarded.board.width;
+    let start = number_of(width, request.sx, request.sy) as usize;
+    let goal = number_of(width, request.gx, request.gy) as usize;
     (w.number == start) | (w.number == goal)
 }
 
 // Whether w, which u sees, is a visible neighbour of u. What has been seen before was admitted then: it is not asked again.
-pub fn is_visible(cells: &[u8], guard: &[u8], request: Request, u: Spot, w: Spot, mark: u8) -> bool
-    requires judging { Judging cells.now request u w mark }
-    requires guarded { Guarded (board_of cells.now request) guard.now }
-    ensures { result ≡ (asked cells.now request).near u.number w.number }
+pub fn is_visible(request: &Request<'_, '_>, u: Spot, w: Spot, mark: u8) -> bool
+    requires { Judging request.now u w mark }
+    ensures { result ≡ (asked request.now).near u.number w.number }
 {
     if mark != 0 {
         return true;
     }
-    is_admitted(cells, guard, request, w)
+    is_admitted(request, w)
 }

@@ -2,17 +2,7 @@
 #![tactic(auto)]
 
 pub mod inner;
-
-// What is asked: the board's sides, the start and the goal.
-#[derive(Clone, Copy)]
-pub struct Request {
-    pub width: usize,
-    pub height: usize,
-    pub sx: usize,
-    pub sy: usize,
-    pub gx: usize,
-    pub gy: usize,
-}
+pub mod request;
 
 // A vertex: its place and its number.
 #[derive(Clone, Copy)]

@@ -52,24 +52,21 @@ fn look(
 {
     let row = y * (width + 1);
     let end = row + group_end(width, x);
-    let mut v = row + x / GROUP * GROUP;
-    let mut first = v;
-    let mut key = NO_KEY;
-    while v < end {
+    let start = row + x / GROUP * GROUP;
+    let mut first = Leader {
+        vertex: start,
+        f: NO_KEY,
+    };
+    for v in start..end {
         if marks[v] == 1 {
             let own = g[v];
             let f = own + units_between(v - row, y, gx, gy, table);
-            if ahead(f, own, legs[v], v, key, first, g, legs) {
-                first = v;
-                key = f;
+            if ahead(f, own, legs[v], v, first.f, first.vertex, g, legs) {
+                first = Leader { vertex: v, f };
             }
         }
-        v += 1;
     }
-    Leader {
-        vertex: first,
-        f: key,
-    }
+    first
 }
 
 // The vertex v at (x, y) opens with the g `own` and so many legs, or is open and these are better than what it has.

@@ -7,20 +7,15 @@ use lib.Dec.{ltb, eqb}
 use lib.ListN.{length, drop}
 use borrow.Author.Tests.{not-false, ltb-false, lt-ltb, le-ltb}
 use Rattle.board.specs.Board.{Board}
-use Rattle.board.specs.Handed.{Verdict, passes, refused, row, and_then, side_fits}
+use Rattle.board.specs.Handed.{Verdict, passes, refused, row, and_then, side_fits, Handed, unless, judged}
 use Rattle.board.specs.Handed.{side_row, first_bad, cell_rows, board_rows, refusal_row}
 use Rattle.board.specs.declared.Refusal.{Refusal}
 use Rattle.board.specs.declared.Refusal.TheVariants as board-refusal
 use Rattle.board.proofs.Bytes.{bits_all}
 use Rattle.board.proofs.Verdicts.{no_pass, row_passes, both_pass}
 use Rattle.board.proofs.Rows.{board_sound}
-use Rattle.bits.specs.Packed.{blocked_in}
 use Rattle.bits.specs.Inner.{Sides, Bits}
-use Rattle.filling.specs.declared.PackedRefusal.{PackedRefusal}
-use Rattle.filling.specs.declared.PackedRefusal.TheVariants.{Side, Length, Filling}
-use Rattle.filling.specs.Filling.{packed_rows, packed_row}
-use Rattle.packed.specs.declared.CountAnswer.TheVariants as counting
-use Rattle.packed.specs.Answers.{slice_after, Wrote, handed_count, count_row}
+use Rattle.packed.specs.Answers.{slice_after, Wrote}
 
 -- ---- what accepted cells are known to be
 
@@ -49,7 +44,7 @@ module _ (b : Board) (e : board_rows b ≡ passes) where
       let none = ltb-false (first_bad b.cells) (length b.cells) (row_passes bad 3 (first_bad b.cells) t.1) in
       record { bit = bits_all b.cells none }
 
--- ---- no refusal passes
+-- ---- no refusal passes, and it is handed back alike, whatever would have come after it
 
 pub board_refuses : (why : Refusal) → refusal_row why ≡ passes → ⊥
 board_refuses board-refusal.Side e = no_pass e
@@ -58,19 +53,10 @@ board_refuses (board-refusal.Byte at) e = no_pass e
 board_refuses board-refusal.First e = no_pass e
 board_refuses board-refusal.Second e = no_pass e
 
--- ---- what the count hands back
-
-module _ (packed : List ℕ) (w h : ℕ) where
-  pub counted_refused : (why : PackedRefusal) → packed_row why ≡ packed_rows packed w h
-      → handed_count (counting.Refused why) ≡ count_row packed w h
-  unfolding count_row
-  counted_refused Side e = rw (← e)
-  counted_refused Length e = rw (← e)
-  counted_refused (Filling at) e = rw (← e)
-
-  pub counted_done : packed_rows packed w h ≡ passes → handed_count (counting.Blocked (blocked_in packed w h)) ≡ count_row packed w h
-  unfolding count_row
-  counted_done e = rw e
+pub refused_alike : {Values : Type 0} (none : Values) (rest : Handed Values) (v : Verdict) {w : Verdict} → (v ≡ passes → ⊥) → v ≡ w
+    → judged none v ≡ unless none w rest
+refused_alike none rest passes n e = absurd (n refl)
+refused_alike none rest (refused number place second) n e = rw (← e)
 
 -- ---- what a lent slice holds, by rows that come first, and a last one for a slice that is too short
 

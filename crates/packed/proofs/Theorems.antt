@@ -13,12 +13,10 @@ use Rattle.board.specs.Board.{board}
 use Rattle.board.specs.Handed.{passes, board_rows}
 use Rattle.board.proofs.Rows.{rows_pass}
 use Rattle.board.proofs.Verdicts.{both_pass}
-use Rattle.packed.specs.declared.ReadAnswer.{ReadAnswer}
-use Rattle.packed.specs.declared.ReadAnswer.TheVariants.{Read}
-use Rattle.packed.specs.declared.WriteAnswer.{WriteAnswer}
-use Rattle.packed.specs.declared.WriteAnswer.TheVariants.{Written}
-use Rattle.packed.specs.declared.CountAnswer.{CountAnswer}
-use Rattle.packed.specs.declared.CountAnswer.TheVariants.{Blocked}
+use Rattle.std.specs.Prelude.{Result, Ok}
+use Rattle.filling.specs.declared.PackedRefusal.{PackedRefusal}
+use Rattle.packed.specs.declared.ReadRefusal.{ReadRefusal}
+use Rattle.packed.specs.declared.WriteRefusal.{WriteRefusal}
 use Rattle.bits.specs.Packed.{packed_bytes, cell_of, cells_of, blocked_in, byte_from, packed_of}
 use Rattle.filling.specs.Filling.{packed_rows}
 use Rattle.filling.proofs.Checking as checking
@@ -33,7 +31,7 @@ use Rattle.packed.proofs.Determined.{read_determined, written_determined, count_
 -- ---- where cells were written, and the part that was written is read into a slice that is long enough
 
 module _ (cells : List ℕ) (w h : ℕ) (before after : List ℕ)
-    (wrote : PackedWritten (board cells w h) before (said_written Written) after) where
+    (wrote : PackedWritten (board cells w h) before (said_written (Ok tt)) after) where
   accepted : board_rows (board cells w h) ≡ passes
   unfolding write_rows
   accepted = (both_pass (board_rows (board cells w h)) _ (wrote_all wrote).0).0
@@ -56,21 +54,21 @@ module _ (cells : List ℕ) (w h : ℕ) (before after : List ℕ)
       checking.rows_pass (packed_of cells w h) w h (board_fits (board cells w h) accepted) n (omega (arith, c))
 
   -- then it is read, and the slice holds the cells that were written
-  pub written_then_read : {lent left : List ℕ} {r : ReadAnswer} → w * h ≤ length lent → CellsRead part w h lent (said_read r) left
-      → (r ≡ Read) × (left ≡ cells ++ drop (w * h) lent)
+  pub written_then_read : {lent left : List ℕ} {r : Result (Unit {0}) ReadRefusal} → w * h ≤ length lent → CellsRead part w h lent (said_read r) left
+      → (r ≡ Ok tt) × (left ≡ cells ++ drop (w * h) lent)
   unfolding read_rows
   written_then_read {lent} {left} {r} room read =
       let s = board_sides (board cells w h) accepted in
       let back =
       read_written w h s.wide cells (board_bits (board cells w h) accepted).bit (board_full (board cells w h) accepted) in
       let full = board_full (board cells w h) accepted in
-      let done : CellsRead part w h lent (said_read Read) (cells ++ drop (w * h) lent) =
+      let done : CellsRead part w h lent (said_read (Ok tt)) (cells ++ drop (w * h) lent) =
       rw (part_is, back) (wrote_done cells lent part_passes (length lent) (w * h) 19 room full refl) in
       read_determined part w h lent read done
 
 -- ---- where packed bytes were read, and the cells are written into a slice that is long enough
 
-module _ (packed : List ℕ) (w h : ℕ) (before after : List ℕ) (read : CellsRead packed w h before (said_read Read) after) where
+module _ (packed : List ℕ) (w h : ℕ) (before after : List ℕ) (read : CellsRead packed w h before (said_read (Ok tt)) after) where
   taken : packed_rows packed w h ≡ passes
   unfolding read_rows
   taken = (both_pass (packed_rows packed w h) _ (wrote_all read).0).0
@@ -94,24 +92,24 @@ module _ (packed : List ℕ) (w h : ℕ) (before after : List ℕ) (read : Cells
       rows_pass (board (cells_of packed w h) w h) k.fits read_length (omega (arith, b))
 
   -- then they are written, and the slice holds the bytes that were read; a packed slice holds bytes
-  pub read_then_written : ((i : ℕ) → get_or packed i 0 < 256) → {lent left : List ℕ} {r : WriteAnswer}
+  pub read_then_written : ((i : ℕ) → get_or packed i 0 < 256) → {lent left : List ℕ} {r : Result (Unit {0}) WriteRefusal}
       → packed_bytes w h ≤ length lent
       → PackedWritten (board cells_read w h) lent (said_written r) left
-      → (r ≡ Written) × (left ≡ packed ++ drop (packed_bytes w h) lent)
+      → (r ≡ Ok tt) × (left ≡ packed ++ drop (packed_bytes w h) lent)
   unfolding write_rows
   read_then_written bytes {lent} {left} {r} room wrote =
       let k = packed_known packed w h taken in
       let back = written_read w h k.sized.sides.wide packed k.sized.full k.clean bytes in
-      let done : PackedWritten (board cells_read w h) lent (said_written Written) (packed ++ drop (packed_bytes w h) lent) =
+      let done : PackedWritten (board cells_read w h) lent (said_written (Ok tt)) (packed ++ drop (packed_bytes w h) lent) =
       rw (cells_are, back) (wrote_done packed lent cells_pass (length lent) (packed_bytes w h) 21 room k.sized.full refl) in
       written_determined (board cells_read w h) lent wrote done
 
   -- and the count is the number of cell bytes that are 1
-  pub read_then_counted : {r : CountAnswer} → handed_count r ≡ count_row packed w h
-      → r ≡ Blocked (how_many (w * h) (λ (k : ℕ). eqb (get_or after k 0) 1))
+  pub read_then_counted : {r : Result ℕ PackedRefusal} → handed_count r ≡ count_row packed w h
+      → r ≡ Ok (how_many (w * h) (λ (k : ℕ). eqb (get_or after k 0) 1))
   unfolding count_row blocked_in
   read_then_counted {r} counted =
-      count_determined packed w h counted (rw taken (ap (λ (n : ℕ). handed_count (Blocked n)) (sym same)))
+      count_determined packed w h counted (rw taken (ap (λ (n : ℕ). handed_count (Ok n)) (sym same)))
     where
       cell : (k : ℕ) → k < w * h → get_or after k 0 ≡ cell_of packed w k
       cell k l =

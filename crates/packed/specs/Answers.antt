@@ -1,16 +1,15 @@
 -- What the three calls hand back, in the table's numbers, and what the lent slice holds afterwards.
-use Rattle.std.specs.Prelude.{ℕ, ◌*◌, ◌≡◌, List, ◌++◌, ltb, length, drop}
+use Rattle.std.specs.Prelude.{ℕ, ◌*◌, ◌≡◌, List, ◌++◌, ltb, length, drop, Result}
 use Rattle.board.specs.Board.{Board}
 use Rattle.board.specs.Handed.{Verdict, passes, refused, row, and_then, Handed}
-use Rattle.board.specs.Handed.{answer, unless, judged, board_rows, refusal_row}
+use Rattle.board.specs.Handed.{answer, unless, handed, verdict, board_rows, refusal_row}
+use Rattle.filling.specs.declared.PackedRefusal.{PackedRefusal}
 use Rattle.bits.specs.Packed.{packed_bytes, cells_of, blocked_in, packed_of}
 use Rattle.filling.specs.Filling.{packed_rows, packed_row}
-use Rattle.packed.specs.declared.ReadAnswer.{ReadAnswer}
-use Rattle.packed.specs.declared.ReadAnswer.TheVariants as reading
-use Rattle.packed.specs.declared.WriteAnswer.{WriteAnswer}
-use Rattle.packed.specs.declared.WriteAnswer.TheVariants as writing
-use Rattle.packed.specs.declared.CountAnswer.{CountAnswer}
-use Rattle.packed.specs.declared.CountAnswer.TheVariants as counting
+use Rattle.packed.specs.declared.ReadRefusal.{ReadRefusal}
+use Rattle.packed.specs.declared.ReadRefusal.TheVariants as reading
+use Rattle.packed.specs.declared.WriteRefusal.{WriteRefusal}
+use Rattle.packed.specs.declared.WriteRefusal.TheVariants as writing
 
 -- ---- a call that writes a lent slice
 
@@ -30,10 +29,13 @@ pub record Wrote (rows : Verdict) (written before : List ℕ) (said : Verdict) (
 unfoldable pub read_rows : List ℕ → (width height lent : ℕ) → Verdict
 read_rows packed width height lent = and_then (packed_rows packed width height) (row (ltb lent (width * height)) 19 0)
 
-abbrev pub said_read : ReadAnswer → Verdict
-said_read reading.Read = passes
-said_read (reading.Refused why) = packed_row why
-said_read reading.Short = refused 19 0 0
+-- the row of each refusal of the code, and what its answer says
+abbrev pub read_refusal_row : ReadRefusal → Verdict
+read_refusal_row (reading.Packed why) = packed_row why
+read_refusal_row reading.Short = refused 19 0 0
+
+abbrev pub said_read : Result (Unit {0}) ReadRefusal → Verdict
+said_read = verdict read_refusal_row
 
 abbrev pub CellsRead : (packed : List ℕ) (width height : ℕ) (before : List ℕ) (said : Verdict) (after : List ℕ) → Type 0
 CellsRead packed width height before = Wrote (read_rows packed width height (length before)) (cells_of packed width height) before
@@ -44,10 +46,12 @@ CellsRead packed width height before = Wrote (read_rows packed width height (len
 unfoldable pub write_rows : Board → (lent : ℕ) → Verdict
 write_rows b lent = and_then (board_rows b) (row (ltb lent (packed_bytes b.width b.height)) 21 0)
 
-abbrev pub said_written : WriteAnswer → Verdict
-said_written writing.Written = passes
-said_written (writing.Refused why) = refusal_row why
-said_written writing.Short = refused 21 0 0
+abbrev pub write_refusal_row : WriteRefusal → Verdict
+write_refusal_row (writing.Board why) = refusal_row why
+write_refusal_row writing.Short = refused 21 0 0
+
+abbrev pub said_written : Result (Unit {0}) WriteRefusal → Verdict
+said_written = verdict write_refusal_row
 
 abbrev pub PackedWritten : (b : Board) (before : List ℕ) (said : Verdict) (after : List ℕ) → Type 0
 PackedWritten b before = Wrote (write_rows b (length before)) (packed_of b.cells b.width b.height) before
@@ -61,9 +65,8 @@ pub record Count : Type 0 where
 abbrev pub no_count : Count
 no_count = record { blocked = 0 }
 
-abbrev pub handed_count : CountAnswer → Handed Count
-handed_count (counting.Blocked n) = answer (record { blocked = n })
-handed_count (counting.Refused why) = judged no_count (packed_row why)
+abbrev pub handed_count : Result ℕ PackedRefusal → Handed Count
+handed_count = handed no_count (λ n. record { blocked = n }) packed_row
 
 -- 1, 29, 30
 unfoldable pub count_row : List ℕ → (width height : ℕ) → Handed Count

@@ -12,10 +12,8 @@ pub fn unpack(packed: &[u8], width: usize, height: usize, cells: &mut [u8])
     ensures { cells.new
         ≡ cells_of packed.now width height ++ drop (width * height) cells.old }
 {
-    for k in 0..width * height {
-        let x = k % width;
-        let y = k / width;
-        cells[k] = bit_of(packed, width, x, y);
+    for (k, cell) in cells[..width * height].iter_mut().enumerate() {
+        *cell = bit_of(packed, width, k % width, k / width);
     }
 }
 
@@ -28,9 +26,7 @@ pub fn pack(cells: &[u8], width: usize, height: usize, packed: &mut [u8])
         ≡ packed_of cells.now width height ++ drop (packed_bytes width height) packed.old }
 {
     let row = row_bytes(width);
-    for i in 0..row * height {
-        let x = i % row * 8;
-        let y = i / row;
-        packed[i] = byte_from(cells, width, x, y);
+    for (i, byte) in packed[..row * height].iter_mut().enumerate() {
+        *byte = byte_from(cells, width, i % row * 8, i / row);
     }
 }

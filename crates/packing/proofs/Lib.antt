@@ -1,3 +1,2 @@
-pub mod Refused
-mod Calls
+pub mod Calls
 pub mod Determined

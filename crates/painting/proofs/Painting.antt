@@ -1,4 +1,4 @@
--- Cells that get a value, one by one and row by row. Assumes nothing.
+-- Cells that get a value, row by row and keepout by keepout. Assumes nothing.
 use Prim.Native.Nat.{ℕ, ◌+◌, ◌*◌, ◌≤◌, ◌<◌}
 use mathlib.Core.Path.{◌≡◌, refl, sym, ◌∙◌}
 use mathlib.Core.Logic.{⊎_elim}
@@ -8,14 +8,17 @@ use native.Mathlib.Nat.{mul-le-mul_right}
 use native.Mathlib.Numerals.{add-one}
 use native.Mathlib.Omega.{arith}
 use lib.Dec.{leb, ltb}
-use lib.ListN.{length, get_or, set, length-set}
-use lib.Seq.{get_or-set_same, get_or-set_other}
+use lib.ListN.{get_or}
 use borrow.Author.Tests.{lt-ltb, le-ltb, le-leb, lt-leb}
 use Rattle.laws.proofs.Tests.{order, bool_cases, and_both, and_false, or_false}
 use Rattle.laws.specs.Below.{some}
-use Rattle.kinds.specs.declared.Record.TheVariants.{Keepout}
+use Rattle.kinds.specs.declared.Record.TheVariants.{Board, Keepout, Net}
+use Rattle.kinds.specs.declared.Rectangle.{Rectangle}
+use Rattle.kinds.specs.declared.Record.{Record}
+use Rattle.kinds.specs.declared.RecordFault.{RecordFault}
+use Rattle.std.specs.Prelude.{Some, None, Result, Ok, Err}
 use Rattle.kinds.specs.Job.{is_keepout, left, top, right, bottom, inside, covers}
-use Rattle.painting.specs.Cells.{Filled, Painted}
+use Rattle.painting.specs.Cells.{Filled, Painted, keepout_in}
 use Rattle.kinds.proofs.Says.{Says, keepout}
 
 abbrev between : (a x b : ℕ) → Bool
@@ -33,35 +36,6 @@ above a x b l = and_false (leb a x) (le-ltb x b l)
 -- nothing lies between a number and itself
 empty : (a x : ℕ) → between a x a ≡ false
 empty a x = ⊎_elim (λ (l : x < a). below a x a l) (λ (l : a ≤ x). above a x a l) (order x a)
-
--- ---- entries one by one
-
-pub fill_none : (from value : ℕ) (l : List ℕ) → Filled from from value l l
-fill_none from value l = record { long = refl; entry = λ (k : ℕ). rw (empty from k) }
-
-pub fill_more : {from at value : ℕ} {before after : List ℕ} → Filled from at value before after → from ≤ at → at < length after
-    → Filled from (at + 1) value before (set after at value)
-fill_more {from} {at} {value} {before} {after} f l u = record {
-  long = length-set after at value ∙ f.long;
-  entry = λ (k : ℕ). ⊎_elim (lower k) (λ (b : at ≤ k). upper k b) (order k at);
-}
-  where
-    -- before the new entry and after it nothing changes, nor does the test
-    other : (k : ℕ) → (k ≡ at → ⊥) → between from k (at + 1) ≡ between from k at
-        → get_or (set after at value) k 0 ≡ cond (between from k (at + 1)) value (get_or before k 0)
-    other k n e = rw e (get_or-set_other after at k value 0 n ∙ f.entry k)
-
-    lower : (k : ℕ) → k < at → get_or (set after at value) k 0 ≡ cond (between from k (at + 1)) value (get_or before k 0)
-    lower k b = other k (λ (e : k ≡ at). omega arith) (rw (lt-ltb k (at + 1) (omega arith), lt-ltb k at b))
-
-    upper : (k : ℕ) → at ≤ k → get_or (set after at value) k 0 ≡ cond (between from k (at + 1)) value (get_or before k 0)
-    upper k b =
-        ⊎_elim
-        (λ (g : at < k). other k (λ (e : k ≡ at). omega arith) (rw (le-ltb k (at + 1) (omega arith), le-ltb k at (omega arith))))
-        (λ (g : k ≤ at).
-        let e : k ≡ at = omega arith in
-        rw (e, within from at (at + 1) l (omega arith)) (get_or-set_same after at value 0 u))
-        (order at k)
 
 -- ---- a rectangle row by row
 
@@ -114,6 +88,15 @@ module _ {w left top right y : ℕ} {before mid after : List ℕ} (p : Painted w
 
 -- ---- keepout by keepout
 
+pub keepout_told : (said : Result Record RecordFault) {r : Rectangle} → Some r ≡ keepout_in said → said ≡ Ok (Keepout r)
+keepout_told (Ok (Board w h)) e = cc
+keepout_told (Ok (Keepout r)) e = cc
+keepout_told (Ok (Net n)) e = cc
+keepout_told (Err fault) e = cc
+
+pub none_told : (said : Result Record RecordFault) → None ≡ keepout_in said → (r : Rectangle) → said ≡ Ok (Keepout r) → ⊥
+none_told said e r f = let g = rw f at e in cc
+
 either : (a b : Bool) (o : ℕ) → cond b 1 (cond a 1 o) ≡ cond (a || b) 1 o
 either true true o = refl
 either true false o = refl
@@ -132,8 +115,8 @@ module _ (job : List ℕ) (w : ℕ) where
   unfolding some
   keepouts_skip i n p = record { long = p.long; cell = λ (x y : ℕ) (b : x < w). rw (add-one i, n, or_false (covered_by i x y)) (p.cell x y b) }
 
-  pub keepouts_more : {i a b c d : ℕ} {before mid after : List ℕ} → Says job i (Keepout a b c d) → Painted w (covered_by i) before mid
-      → Painted w (inside a b c d) mid after → Painted w (covered_by (i + 1)) before after
+  pub keepouts_more : {i : ℕ} {r : Rectangle} {before mid after : List ℕ} → Says job i (Ok (Keepout r)) → Painted w (covered_by i) before mid
+      → Painted w (inside r.left r.top r.right r.bottom) mid after → Painted w (covered_by (i + 1)) before after
   unfolding some
   keepouts_more {i} (keepout e t) p q = record {
     long = q.long ∙ p.long;

@@ -1,11 +1,13 @@
 // Calls for the crates above, whose job has been accepted: each says what it requires.
 ghost use Rattle.std.specs.Prelude.{◌≡◌, ◌*◌, ◌≤◌, ◌<◌, ◌++◌, length, drop};
+ghost use Rattle.records.specs.Records.{records};
+ghost use Rattle.kinds.specs.Inner.{record_at};
 ghost use Rattle.kinds.specs.Job.{width, height, inside, in_keepout, board_cells};
 ghost use Rattle.faults.specs.Inner.{Accepted};
-ghost use Rattle.painting.specs.Cells.{Filled, Painted};
+ghost use Rattle.painting.specs.Cells.{Filled, Painted, keepout_in};
 
-use kinds::Record;
 use kinds::inner::record_at;
+use kinds::{Record, Rectangle};
 use records::RECORD;
 
 // What the byte of a free cell is, and of a blocked one.
@@ -18,21 +20,28 @@ fn fill(board: &mut [u8], from: usize, to: usize, value: u8)
     requires { (from ≤ to) × (to ≤ length board.old) }
     ensures { Filled from to value board.old board.new }
 {
-    let mut at = from;
-    while at < to {
-        board[at] = value;
-        at += 1;
-    }
+    board[from..to].fill(value);
 }
 
 // Blocks the cells of one keepout, row by row.
-fn paint(board: &mut [u8], width: usize, left: usize, top: usize, right: usize, bottom: usize)
-    requires { (left < right) × (right ≤ width) × (top ≤ bottom) × (bottom * width ≤ length board.old) }
-    ensures { Painted width (inside left top right bottom) board.old board.new }
+fn paint(board: &mut [u8], width: usize, keepout: Rectangle)
+    requires { (keepout.left < keepout.right) × (keepout.right ≤ width) × (keepout.top ≤ keepout.bottom) × (keepout.bottom * width ≤ length board.old) }
+    ensures { Painted width (inside keepout.left keepout.top keepout.right keepout.bottom) board.old board.new }
 {
-    for y in top..bottom {
+    for y in keepout.top..keepout.bottom {
         let row = y * width;
-        fill(board, row + left, row + right, BLOCKED);
+        fill(board, row + keepout.left, row + keepout.right, BLOCKED);
+    }
+}
+
+// The keepout that record i says, if it says one.
+fn keepout_of(job: &[u8], i: usize) -> Option<Rectangle>
+    requires { i < records job.now }
+    ensures { result ≡ keepout_in (record_at job.now i) }
+{
+    match record_at(job, i) {
+        Ok(Record::Keepout(keepout)) => Some(keepout),
+        _ => None,
     }
 }
 
@@ -43,16 +52,9 @@ fn paint_keepouts(job: &[u8], wide: usize, board: &mut [u8])
     ensures { Painted wide (in_keepout job.now) board.old board.new }
 {
     for i in 0..job.len() / RECORD {
-        let Record::Keepout {
-            left,
-            top,
-            right,
-            bottom,
-        } = record_at(job, i)
-        else {
-            continue;
-        };
-        paint(board, wide, left, top, right, bottom);
+        if let Some(keepout) = keepout_of(job, i) {
+            paint(board, wide, keepout);
+        }
     }
 }
 

@@ -5,7 +5,7 @@ ghost use Rattle.theta.specs.Back.{Traced};
 
 use board::Vertex;
 
-// How many vertices the path to the goal has, by the parents.
+// How many vertices the path to the goal has: from parent to parent until the start is there.
 pub fn count_path(start: Vertex, goal: Vertex, parents: &[Vertex]) -> usize
     requires { Traced (length parents.now) start parents.now goal }
     ensures { result ≡ length (trail start parents.now (length parents.now) goal) }
@@ -32,9 +32,7 @@ pub fn write_path(
     ensures { path.new ≡ trail start parents.now (length parents.now) goal ++ drop count path.old }
 {
     let mut v = goal;
-    let mut i = count;
-    while 1 < i {
-        i -= 1;
+    for i in (1..count).rev() {
         path[i] = v;
         v = parents[v as usize];
     }

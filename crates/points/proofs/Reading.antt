@@ -1,51 +1,60 @@
 -- What is read from the records, and what is said of it. Assumes nothing.
-use Prim.Native.Nat.{ℕ, ◌+◌, ◌-◌, ◌≤◌, ◌<◌}
-use mathlib.Core.Path.{◌≡◌, sym, ap₂, ◌∙◌}
-use mathlib.Core.Bool.{Bool, true, false}
+use Prim.Native.Nat.{ℕ, ◌+◌, ◌-◌, ◌<◌}
+use mathlib.Core.Path.{◌≡◌, ap₂, ◌∙◌}
+use mathlib.Core.Bool.{Bool, true, false, cond}
 use native.Mathlib.Omega.{arith}
-use borrow.Author.Tests.{lt-ltb, le-ltb}
-use Rattle.laws.specs.Below.{first_where}
+use Rattle.std.specs.Prelude.{Some, None}
 use Rattle.board.specs.Board.{Board}
 use Rattle.board.specs.Handed.{passes, refused}
 use Rattle.legs.specs.Inner.{EndsOn}
 use Rattle.kinds.specs.Job.{Net}
 use Rattle.tracks.specs.Tracks.{Point}
-use Rattle.bureau.specs.Paths.{point, is_end_wrong, off_place, is_leg_wrong, leg_place, start_of, goal_of, path_rows}
-use Rattle.bureau.specs.Inner.{PointsOn}
-use Rattle.bureau.proofs.Finding.{first_done}
+use Rattle.bureau.specs.Paths.{is_end_wrong, off_place, is_leg_wrong, leg_place, start_of, goal_of, place_row, path_rows}
+use Rattle.bureau.specs.Inner.{place_before, PointsOn}
 
 -- ---- a leg
 
-pub legs_on : {b : Board} {n : ℕ} {p : ℕ → Point} {k ax ay bx by : ℕ} → PointsOn b n p → k + 1 < n → ax ≡ (p k).x → ay ≡ (p k).y
-    → bx ≡ (p (k + 1)).x → by ≡ (p (k + 1)).y → EndsOn b ax ay bx by
-legs_on {k = k} P l e f g h = rw (e, f, g, h) (record { first = P.on k (omega arith); second = P.on (k + 1) l })
+pub leg_on : {b : Board} {n : ℕ} {p : ℕ → Point} (k : ℕ) {from to : Point} → PointsOn b n p → k + 1 < n → from ≡ p k → to ≡ p (k + 1)
+    → EndsOn b from.x from.y to.x to.y
+leg_on k P l e f = rw (e, f) (record { first = P.on k (omega arith); second = P.on (k + 1) l })
 
-pub leg_told : (b : Board) (is_last : Bool) {ax ay bx by cx cy dx dy : ℕ} {r t : Bool} → ax ≡ cx → ay ≡ cy → bx ≡ dx → by ≡ dy
-    → r ≡ is_leg_wrong b (point ax ay) (point bx by) is_last → r ≡ t → is_leg_wrong b (point cx cy) (point dx dy) is_last ≡ t
-leg_told b is_last e f g h i j =
-    sym (ap₂ (λ (p q : Point). is_leg_wrong b p q is_last) (ap₂ point e f) (ap₂ point g h)) ∙ sym i ∙ j
+pub leg_told : (b : Board) (is_last : Bool) {from to p q : Point} {r : Bool} → from ≡ p → to ≡ q → r ≡ is_leg_wrong b from to is_last
+    → r ≡ is_leg_wrong b p q is_last
+leg_told b is_last e f h = h ∙ ap₂ (λ (p q : Point). is_leg_wrong b p q is_last) e f
 
--- there is one leg less than points
-pub legs_are : (t : ℕ → Bool) {n legs k : ℕ} → legs + 1 ≡ n → first_where k t ≡ k → k ≤ legs → legs ≤ k → legs ≡ first_where (n - 1) t
-legs_are t {n} {legs} e f l m = let s : n - 1 ≡ legs = omega arith in rw s (first_done t f l m)
+-- ---- the row of a place that was found, or that none was
+
+row_some : (t : Bool) (place number net : ℕ) {k : ℕ} → Some k ≡ cond t (Some place) None → cond t (refused number net place) passes ≡ refused number net k
+row_some true place number net {k} e = let s : k ≡ place = cc in rw s
+row_some false place number net e = cc
+
+row_none : (t : Bool) (place number net : ℕ) → None ≡ cond t (Some place) None → cond t (refused number net place) passes ≡ passes
+row_none true place number net e = cc
+row_none false place number net e = cc
+
+pub place_found : (place end number net : ℕ) {k : ℕ} → Some k ≡ place_before place end → place_row place end number net ≡ refused number net k
+place_found place end number net e = row_some _ place number net e
+
+pub no_place : (place end number net : ℕ) → None ≡ place_before place end → place_row place end number net ≡ passes
+no_place place end number net e = row_none _ place number net e
 
 -- ---- the rows of a path, in order
 
 module _ (b : Board) (net : Net) (n : ℕ) (p : ℕ → Point) {wrong : Bool} (end_is : wrong ≡ is_end_wrong (start_of net) (goal_of net) n p) where
-  pub path_end_lem : wrong ≡ true → refused 25 net.number 0 ≡ path_rows b net n p
+  pub path_end : wrong ≡ true → refused 25 net.number 0 ≡ path_rows b net n p
   unfolding path_rows
-  path_end_lem e = rw (← end_is, e)
+  path_end e = rw (← end_is, e)
 
-  module _ (right : wrong ≡ false) {off : ℕ} (is : off ≡ off_place b n p) where
-    pub path_off : off < n → refused 26 net.number off ≡ path_rows b net n p
+  module _ (right : wrong ≡ false) where
+    pub path_off : {off : ℕ} → Some off ≡ place_before (off_place b n p) n → refused 26 net.number off ≡ path_rows b net n p
     unfolding path_rows
-    path_off l = rw (← end_is, right, ← is, lt-ltb off n l)
+    path_off e = rw (← end_is, right, place_found _ _ 26 net.number e)
 
-    module _ (on : n ≤ off) {leg : ℕ} (leg-is : leg ≡ leg_place b n p) where
-      pub path_leg : leg < n - 1 → refused 27 net.number leg ≡ path_rows b net n p
+    module _ (on : None ≡ place_before (off_place b n p) n) where
+      pub path_leg : {leg : ℕ} → Some leg ≡ place_before (leg_place b n p) (n - 1) → refused 27 net.number leg ≡ path_rows b net n p
       unfolding path_rows
-      path_leg l = rw (← end_is, right, ← is, ← leg-is, le-ltb off n on, lt-ltb leg (n - 1) l)
+      path_leg e = rw (← end_is, right, no_place _ _ 26 net.number on, place_found _ _ 27 net.number e)
 
-      pub path_fine : n - 1 ≤ leg → passes ≡ path_rows b net n p
+      pub path_fine : None ≡ place_before (leg_place b n p) (n - 1) → passes ≡ path_rows b net n p
       unfolding path_rows
-      path_fine l = rw (← end_is, right, ← is, ← leg-is, le-ltb off n on, le-ltb leg (n - 1) l)
+      path_fine e = rw (← end_is, right, no_place _ _ 26 net.number on, no_place _ _ 27 net.number e)

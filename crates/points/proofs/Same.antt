@@ -7,6 +7,7 @@ use native.Mathlib.Omega.{arith}
 use lib.Dec.{leb, eqb}
 use lib.ListN.{length}
 use borrow.Author.Tests.{not-false, leb-true}
+use Rattle.std.specs.Prelude.{None}
 use Rattle.laws.specs.Below.{first_where}
 use Rattle.laws.proofs.Tests.{and_left, and_right}
 use Rattle.laws.proofs.Below.{first_before}
@@ -16,7 +17,8 @@ use Rattle.board.proofs.Verdicts.{both_pass}
 use Rattle.kinds.specs.Job.{Net}
 use Rattle.tracks.specs.Tracks.{Point}
 use Rattle.bureau.specs.Paths.{point_at, is_end_wrong, is_off, off_place, is_leg_wrong, leg_place, start_of, goal_of, place_row, path_rows, net_rows}
-use Rattle.bureau.specs.Inner.{PointsOn}
+use Rattle.bureau.specs.Inner.{place_before, PointsOn}
+use Rattle.bureau.proofs.Finding.{place_none}
 use Rattle.bureau.proofs.Answering.{row_none}
 
 first_same : (t s : ℕ → Bool) (n : ℕ) → ((i : ℕ) → i < n → t i ≡ s i) → first_where n t ≡ first_where n s
@@ -58,8 +60,8 @@ points_on b n p l = record {
       };
 }
 
-pub points_left : (b : Board) (n : ℕ) (p : ℕ → Point) {off : ℕ} → off ≡ off_place b n p → n ≤ off → PointsOn b n p
-points_left b n p e l = points_on b n p (omega arith)
+pub points_left : (b : Board) (n : ℕ) (p : ℕ → Point) → None ≡ place_before (off_place b n p) n → PointsOn b n p
+points_left b n p e = points_on b n p (place_none (off_place b n p) n e)
 
 pub path_on : (b : Board) (net : Net) (n : ℕ) (p : ℕ → Point) → path_rows b net n p ≡ passes → PointsOn b n p
 unfolding path_rows

@@ -6,9 +6,9 @@ ghost use Rattle.printing.specs.Calls.{LineForC};
 ghost use Rattle.printing.specs.Inner.{line_for};
 
 use crate::Printed;
-use board::Vertex;
+use board::{Numbered, Row, Vertex};
 use lines::inner::refusal_line;
-use lines::{Answer, Line};
+use lines::{Line, Short};
 use writing::write_line;
 
 // The numbers of a net with a path and of one without.
@@ -32,7 +32,7 @@ pub fn line_for_c(
     ensures { LineForC (printed net number place second units expansions tests width path.now) out.old result out.new }
 {
     let line = line_for(net, number, place, second, units, expansions, tests);
-    tell_line(write_line(line, width, path, out))
+    Printed::from(write_line(line, width, path, out))
 }
 
 // The line that a number asks for: a net's, or every other number's refusal.
@@ -62,25 +62,34 @@ fn line_for(
             tests,
         };
     }
-    refusal_line(number, place, second)
+    refusal_line(Row {
+        number,
+        place: place as usize,
+        second: second as usize,
+    })
 }
 
 // What C gets of the line call.
-fn tell_line(answer: Answer) -> Printed
-    ensures { result ≡ told_line (handed_line answer) }
-{
-    match answer {
-        Answer::Written(n) => Printed {
-            number: 0,
-            place: 0,
-            second: 0,
-            bytes: n as u64,
-        },
-        Answer::Short => Printed {
-            number: 21,
-            place: 0,
-            second: 0,
-            bytes: 0,
-        },
+impl From<Result<usize, Short>> for Printed {
+    ghost from_gives = { λ answer told. told ≡ told_line (handed_line answer) };
+
+    fn from(answer: Result<usize, Short>) -> Self {
+        match answer {
+            Ok(bytes) => Printed {
+                number: 0,
+                place: 0,
+                second: 0,
+                bytes: bytes as u64,
+            },
+            Err(why) => {
+                let row = why.row();
+                Printed {
+                    number: row.number,
+                    place: row.place as u64,
+                    second: row.second as u64,
+                    bytes: 0,
+                }
+            }
+        }
     }
 }

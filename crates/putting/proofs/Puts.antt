@@ -1,21 +1,12 @@
 -- Bytes put one after another at a place: what has room, and what the slice then holds. Assumes nothing.
-use Prim.Native.Nat.{ℕ, ◌+◌, ◌≤◌, ◌<◌}
-use mathlib.Core.Path.{◌≡◌, refl, sym, ap, ap₂, ◌∙◌}
-use mathlib.Core.List.{List, [], ◌∷◌, ◌++◌, append_assoc}
-use native.Mathlib.Numerals.{add-one}
+use Prim.Native.Nat.{ℕ, ◌+◌, ◌≤◌}
+use mathlib.Core.Path.{◌≡◌, sym, ap, ap₂, ◌∙◌}
+use mathlib.Core.List.{List, ◌++◌, append_assoc}
 use native.Mathlib.Omega.{arith}
-use lib.ListN.{length, take, drop, set, length-append, length-drop, take-append-drop}
-use lib.Seq.{length-take-le, take_at, drop_at, drop-drop, set_split}
+use lib.ListN.{length, take, drop, length-append, length-drop}
+use lib.Seq.{length-take-le, take_at, drop_at, drop-drop}
 use Rattle.lines.specs.Inner.{Put, Room, Two, Three}
 use Rattle.lines.proofs.Fields.{joined}
-
--- nothing yet
-pub put_nothing : (before : List ℕ) (at : ℕ) → Put [] before at at before
-put_nothing before at = record { next_is = omega arith; after_is = sym (take-append-drop at before) }
-
--- one byte
-pub put_one : (before : List ℕ) (at byte : ℕ) → at < length before → Put (byte ∷ []) before at (at + 1) (set before at byte)
-put_one before at byte l = record { next_is = refl; after_is = rw (add-one at) (set_split before at byte l) }
 
 module _ {xs before mid : List ℕ} {at next : ℕ} (fits : at + length xs ≤ length before) (p : Put xs before at next mid) where
   ahead_length : length (take at before ++ xs) ≡ next

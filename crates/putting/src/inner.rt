@@ -5,14 +5,14 @@ ghost use Rattle.lines.specs.Inner.{Put, Room, numbered};
 
 use fitting::inner::count_digits;
 
-const NEWLINE: u8 = b'\n';
-
-fn put_byte(out: &mut [u8], at: usize, byte: u8) -> usize
-    requires { Room (byte ∷ []) out.old at }
-    ensures { Put (byte ∷ []) out.old at result out.new }
+// Some text.
+pub fn put_text(out: &mut [u8], at: usize, text: &[u8]) -> usize
+    requires { Room text.now out.old at }
+    ensures { Put text.now out.old at result out.new }
 {
-    out[at] = byte;
-    at + 1
+    let next = at + text.len();
+    out[at..next].copy_from_slice(text);
+    next
 }
 
 // The end of a line.
@@ -20,19 +20,7 @@ pub fn put_newline(out: &mut [u8], at: usize) -> usize
     requires { Room (10 ∷ []) out.old at }
     ensures { Put (10 ∷ []) out.old at result out.new }
 {
-    put_byte(out, at, NEWLINE)
-}
-
-// Some text.
-pub fn put_text(out: &mut [u8], at: usize, text: &[u8]) -> usize
-    requires { Room text.now out.old at }
-    ensures { Put text.now out.old at result out.new }
-{
-    let mut next = at;
-    for i in 0..text.len() {
-        next = put_byte(out, next, text[i]);
-    }
-    next
+    put_text(out, at, b"\n")
 }
 
 // The decimal digits of a number, its last digit first.
@@ -42,10 +30,8 @@ fn put_decimal(out: &mut [u8], at: usize, n: u64) -> usize
 {
     let digits = count_digits(n);
     let mut rest = n;
-    let mut left = digits;
-    while 0 < left {
-        left -= 1;
-        out[at + left] = b'0' + (rest % 10) as u8;
+    for i in (0..digits).rev() {
+        out[at + i] = b'0' + (rest % 10) as u8;
         rest /= 10;
     }
     at + digits

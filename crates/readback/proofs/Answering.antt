@@ -6,43 +6,35 @@ use mathlib.Core.List.{List}
 use lib.Dec.{ltb}
 use lib.ListN.{length}
 use borrow.Author.Tests.{ltb-false}
+use Rattle.std.specs.Prelude.{Ok, Err}
 use Rattle.laws.proofs.Tests.{or_neither}
 use Rattle.board.specs.Handed.{Verdict, passes}
 use Rattle.records.specs.Records.{records}
 use Rattle.tracks.specs.declared.RouteRefusal.{RouteRefusal}
 use Rattle.tracks.specs.declared.RouteRefusal.TheVariants as route
-use Rattle.tracks.specs.declared.ReadAnswer.TheVariants.{Read, Refused, Short}
+use Rattle.tracks.specs.declared.ReadRefusal.TheVariants.{Routes, Short}
 use Rattle.tracks.specs.Tracks.{Point, routes_in}
 use Rattle.tracks.specs.Faults.{file_rows, refusal_row}
 use Rattle.tracks.specs.Layout.{Slices, slices, numbers_of, counts_of, xs_of, ys_of, laid_out}
 use Rattle.tracks.specs.Answers.{handed_read, is_short, read_rows, read_row, slices_after, RoutesRead}
 use Rattle.tracks.proofs.Laying.{counts_length, all_length}
-use Rattle.tracks.proofs.Sizes.{nets_counted, points_counted}
+use Rattle.tracks.proofs.Counted.{nets_counted, points_counted}
 use Rattle.tracks.proofs.Theorems.{all_records}
 use Rattle.scan.specs.declared.Progress.{Progress}
-use Rattle.scan.specs.declared.Step.{Step}
-use Rattle.scan.specs.declared.Step.TheVariants as step
 use Rattle.scan.specs.Inner.{progress}
 use Rattle.gather.specs.Inner.{Room, Gathered}
-use Rattle.readback.specs.Inner.{Checked}
 
 -- ---- the file is refused
 
-module _ (file : List ℕ) (lent : Slices) where
-  refused_as : (why : RouteRefusal) → file_rows file ≡ refusal_row why → RoutesRead file lent (handed_read (Refused why)) lent
-  unfolding read_rows read_row
-  refused_as route.Uneven e = record { row_is = rw e; after_is = rw e }
-  refused_as (route.Unknown i) e = record { row_is = rw e; after_is = rw e }
-  refused_as (route.Unused i k) e = record { row_is = rw e; after_is = rw e }
-  refused_as (route.Order i) e = record { row_is = rw e; after_is = rw e }
-
-  pub read_refused : {s : Step} {why : RouteRefusal} → s ≡ step.Refused why → Checked file s → RoutesRead file lent (handed_read (Refused why)) lent
-  read_refused {why = why} e c = refused_as why (rw e at c)
+pub read_refused : (file : List ℕ) (lent : Slices) (why : RouteRefusal) → file_rows file ≡ refusal_row why
+    → RoutesRead file lent (handed_read (Err (Routes why))) lent
+unfolding read_rows read_row
+read_refused file lent route.Uneven e = record { row_is = rw e; after_is = rw e }
+read_refused file lent (route.Unknown i) e = record { row_is = rw e; after_is = rw e }
+read_refused file lent (route.Unused i k) e = record { row_is = rw e; after_is = rw e }
+read_refused file lent (route.Order i) e = record { row_is = rw e; after_is = rw e }
 
 -- ---- the file passes
-
-pub passed : (file : List ℕ) {s : Step} {p : Progress} → s ≡ step.Next p → Checked file s → (file_rows file ≡ passes) × (p ≡ progress file (records file))
-passed file e c = rw e at c
 
 module _ (file : List ℕ) {p : Progress} (known : (file_rows file ≡ passes) × (p ≡ progress file (records file))) where
   nets_are : p.nets ≡ length (numbers_of (routes_in file))
@@ -68,7 +60,7 @@ module _ (file : List ℕ) {p : Progress} (known : (file_rows file ≡ passes) �
         all_length (λ (a : Point). a.y) (λ (a : Point). a.x) (routes_in file) ∙ sym points_are in
         rw (c, y, sym nets_are, sym points_are)
 
-    pub read_short : is_short (laid_out (routes_in file)) lent ≡ true → RoutesRead file lent (handed_read Short) lent
+    pub read_short : is_short (laid_out (routes_in file)) lent ≡ true → RoutesRead file lent (handed_read (Err Short)) lent
     unfolding read_rows read_row
     read_short e = record { row_is = rw (known.0, e); after_is = rw (known.0, e) }
 
@@ -88,7 +80,7 @@ module _ (file : List ℕ) {p : Progress} (known : (file_rows file ≡ passes) �
           }
 
       pub read_done : {nets counts xs ys : List ℕ} → Gathered file lent (slices nets counts xs ys)
-          → RoutesRead file lent (handed_read (Read p.nets p.points)) (slices nets counts xs ys)
+          → RoutesRead file lent (handed_read (Ok (record { nets = p.nets; points = p.points }))) (slices nets counts xs ys)
       unfolding read_rows read_row
       read_done g =
           let rows : read_rows file lent ≡ passes = rw (known.0, e) in

@@ -2,29 +2,20 @@
 ghost use Rattle.readback.specs.Inner.{Checked};
 
 use records::RECORD;
+use scan::Progress;
 use scan::inner::judge;
-use scan::{Progress, Step};
 use tracks::RouteRefusal;
 
 // Checks a whole route file.
-pub fn check_routes(file: &[u8]) -> Step
+pub fn check_routes(file: &[u8]) -> Result<Progress, RouteRefusal>
     ensures { Checked file.now result }
 {
     if file.len() % RECORD != 0 {
-        return Step::Refused(RouteRefusal::Uneven);
+        return Err(RouteRefusal::Uneven);
     }
-    let mut past = Progress {
-        last: 0,
-        next: 0,
-        nets: 0,
-        points: 0,
-    };
+    let mut past = Progress::default();
     for i in 0..file.len() / RECORD {
-        let judged = judge(file, i, past);
-        let Step::Next(next) = judged else {
-            return judged;
-        };
-        past = next;
+        past = judge(file, i, past)?;
     }
-    Step::Next(past)
+    Ok(past)
 }

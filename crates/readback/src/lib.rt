@@ -6,8 +6,7 @@ ghost use Rattle.tracks.specs.Answers.{handed_read, RoutesRead};
 
 use check::check_routes;
 use gather::inner::gather;
-use scan::Step;
-use tracks::{ReadAnswer, RouteRefusal};
+use tracks::{ReadRefusal, Sizes};
 
 pub mod check;
 
@@ -18,23 +17,18 @@ pub fn read_routes(
     counts: &mut [usize],
     xs: &mut [u8],
     ys: &mut [u8],
-) -> ReadAnswer
+) -> Result<Sizes, ReadRefusal>
     ensures { RoutesRead file.now (slices nets.old counts.old xs.old ys.old) (handed_read result) (slices nets.new counts.new xs.new ys.new) }
 {
-    match check_routes(file) {
-        Step::Refused(why) => ReadAnswer::Refused(why),
-        Step::Next(sizes) => {
-            let found = sizes.nets;
-            let points = sizes.points;
-            let short = (nets.len() < found) | (counts.len() < found);
-            if short | ((xs.len() < points) | (ys.len() < points)) {
-                return ReadAnswer::Short;
-            }
-            gather(file, nets, counts, xs, ys, found, points);
-            ReadAnswer::Read {
-                nets: found,
-                points,
-            }
-        }
+    let found = check_routes(file)?;
+    let sizes = Sizes {
+        nets: found.nets,
+        points: found.points,
+    };
+    let short = (nets.len() < sizes.nets) | (counts.len() < sizes.nets);
+    if short | ((xs.len() < sizes.points) | (ys.len() < sizes.points)) {
+        return Err(ReadRefusal::Short);
     }
+    gather(file, nets, counts, xs, ys, sizes);
+    Ok(sizes)
 }

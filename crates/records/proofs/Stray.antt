@@ -1,44 +1,28 @@
--- A byte that is not used must be 0: the lowest that is not, byte by byte, and what its row says. Assumes nothing.
-use Prim.Native.Nat.{ℕ, ◌+◌, ◌<◌}
-use mathlib.Core.Path.{◌≡◌, refl, sym, ◌∙◌}
-use mathlib.Core.Bool.{Bool, true, false, ◌&&◌, cond}
+-- A byte that is not used must be 0: the lowest that is not, as a search finds it, and what its row says. Assumes nothing.
+use Prim.Native.Nat.{ℕ, ◌≤◌, ◌<◌}
+use mathlib.Core.Path.{◌≡◌, refl}
+use mathlib.Core.Bool.{Bool, true, false, cond}
 use mathlib.Core.List.{List}
 use native.Mathlib.Omega.{arith}
-use lib.Dec.{ltb, eqb}
+use lib.Dec.{ltb}
+use borrow.Author.Tests.{lt-ltb, le-ltb}
 use Rattle.laws.specs.Below.{first_where}
-use Rattle.laws.proofs.Below.{none_yet, none_more, first_here}
+use Rattle.laws.proofs.Below.{none_below, first_here}
+use Rattle.std.specs.Prelude.{Option, Some, None, MatchOption}
 use Rattle.board.specs.Handed.{passes, refused}
 use Rattle.board.proofs.Verdicts.{no_pass, Within}
-use Rattle.records.specs.Records.{record_bytes, is_stray_byte, stray_byte, unused_row}
+use Rattle.records.specs.Records.{record_bytes, stray_byte, unused_row}
 
--- ---- byte by byte
+-- ---- found by the library's search over the bytes' numbers
 
--- of the bytes before k none is stray and none is known, or the lowest is known
-pub data Lowest (file used : List ℕ) (i k lowest : ℕ) : Type 0 where
-  none : lowest ≡ record_bytes → first_where k (is_stray_byte file used i) ≡ k → Lowest file used i k lowest
-  known : lowest < record_bytes → lowest ≡ stray_byte file used i → Lowest file used i k lowest
-
-alone : (a : Bool) → (a && true) ≡ false → a ≡ false
-alone true e = e
-alone false e = refl
-
-module _ (file used : List ℕ) (i : ℕ) where
-  pub lowest_begins : Lowest file used i 0 record_bytes
-  lowest_begins = none refl (none_yet (is_stray_byte file used i))
-
-  -- a stray byte is the lowest where none is known, and any other byte changes nothing
-  module _ {k lowest : ℕ} {stray : Bool} (s : stray ≡ is_stray_byte file used i k) where
-    pub lowest_found : k < record_bytes → stray ≡ true → lowest ≡ record_bytes → Lowest file used i k lowest → Lowest file used i (k + 1) k
-    lowest_found l t e (none n f) = known l (sym (first_here (is_stray_byte file used i) k f (sym s ∙ t) record_bytes l))
-    lowest_found l t e (known n f) = absurd (omega arith)
-
-    pub lowest_kept : (stray && eqb lowest record_bytes) ≡ false → Lowest file used i k lowest → Lowest file used i (k + 1) lowest
-    lowest_kept t (none n f) = none n (none_more (is_stray_byte file used i) k f (sym s ∙ alone stray (rw n at t)))
-    lowest_kept t (known n f) = known n f
-
-  pub lowest_ends : {lowest : ℕ} → Lowest file used i record_bytes lowest → lowest ≡ stray_byte file used i
-  lowest_ends (none n f) = n ∙ sym f
-  lowest_ends (known n f) = f
+pub found_first : (test : ℕ → Bool) (n : ℕ) (r : Option ℕ)
+    → MatchOption r ((k : ℕ) → 0 ≤ k → k < n → test k ≡ false) (λ i. (0 ≤ i) × (i < n) × (test i ≡ true) × ((k : ℕ) → 0 ≤ k → k < i → test k ≡ false))
+    → r ≡ cond (ltb (first_where n test) n) (Some (first_where n test)) None
+found_first test n None h =
+    let e = none_below test n (λ k l. h k (omega arith) l) in rw (le-ltb (first_where n test) n (omega arith)) refl
+found_first test n (Some i) h =
+    let e = first_here test i (none_below test i (λ k l. h.3 k (omega arith) l)) h.2 n h.1 in
+    rw (e, lt-ltb i n h.1) refl
 
 -- ---- its row
 

@@ -4,17 +4,11 @@ ghost use Rattle.records.specs.Records.{record_bytes, records, byte};
 
 use crate::RECORD;
 
-// A byte as a number.
-fn wide(byte: u8) -> usize
-    ensures { result ≡ byte }
-{
-    byte as usize
-}
-
 // Byte k of record i.
+#[tactic(auto, unfolding(crate::specs::Records::byte))]
 pub fn byte_of(file: &[u8], i: usize, k: usize) -> usize
     requires { (i < records file.now) × (k < record_bytes) }
     ensures { result ≡ byte file.now i k }
 {
-    wide(file[i * RECORD + k])
+    usize::from(file[i * RECORD + k])
 }

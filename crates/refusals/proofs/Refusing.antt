@@ -5,7 +5,7 @@ use mathlib.Core.Bool.{Bool, true, false, ◌&&◌, ◌||◌, cond, true≢false
 use native.Mathlib.Omega.{arith}
 use lib.Dec.{leb, ltb, eqb}
 use borrow.Author.Tests.{ltb-true, eqb-false, ne_eqb}
-use Rattle.board.specs.Handed.{Verdict, passes, refused, and_then, Handed, answer, unless, judged, number_in, place_in, second_in}
+use Rattle.board.specs.Handed.{Verdict, passes, refused, and_then, Handed, answer, unless, judged}
 use Rattle.board.proofs.Verdicts.{Within}
 use Rattle.refusals.specs.declared.JobRefusal.{JobRefusal}
 use Rattle.refusals.specs.declared.JobRefusal.TheVariants.{Long, Uneven, Order, Unknown, Side, Keepout, End}
@@ -90,8 +90,3 @@ module _ {Values : Type 0} (none : Values) where
   pub refused_same : {v : Verdict} (why : JobRefusal) (w : Verdict) (rest : Handed Values) → v ≡ refusal_row why
       → judged none (refusal_row why) ≡ unless none (and_then v w) rest
   refused_same why w rest e = rw (e, (listed why).row_is)
-
-  -- with its number, its places and no value
-  pub refused_as : (why : JobRefusal) → judged none (refusal_row why)
-      ≡ record { number = number_in (refusal_row why); place = place_in (refusal_row why); second = second_in (refusal_row why); values = none }
-  refused_as why = rw (listed why).row_is

@@ -1,38 +1,26 @@
 -- What was handed back for a net, and that its line has room. Assumes nothing.
-use Prim.Native.Nat.{ℕ, ◌≤◌, ◌<◌}
+use Prim.Native.Nat.{ℕ, ◌≤◌}
 use mathlib.Core.Path.{◌≡◌, subst}
-use mathlib.Core.Logic.{◌⊎◌, ⊎_elim}
 use mathlib.Core.List.{List}
 use native.Mathlib.Omega.{arith}
 use lib.ListN.{length, take}
 use lib.Seq.{length-take-le}
-use Rattle.board.specs.declared.Refusal.{Refusal}
-use Rattle.board.specs.declared.Refusal.TheVariants.{Side, Count, Byte, First, Second}
+use Rattle.std.specs.Prelude.{Result, Ok}
 use Rattle.board.specs.Handed.{Handed}
 use Rattle.answer.specs.declared.Answer.{Answer}
-use Rattle.answer.specs.declared.Answer.TheVariants.{Refused}
+use Rattle.answer.specs.declared.RequestRefusal.{RequestRefusal}
 use Rattle.answer.specs.Answers.{Route, handed_route}
 use Rattle.lines.specs.Lines.{net_line, none_line}
 use Rattle.lines.proofs.Longest.{Small, net_short, none_short}
 use Rattle.netroute.specs.Limits.{widest, line_room}
 use Rattle.replies.specs.Inner.{Answered}
 
--- a path or none is no refusal
-pub no_refusal : (why : Refusal) → ((handed_route (Refused why)).number ≡ 0) ⊎ ((handed_route (Refused why)).number ≡ 8) → ⊥
-no_refusal Side = ⊎_elim (λ z. omega arith) (λ z. omega arith)
-no_refusal Count = ⊎_elim (λ z. omega arith) (λ z. omega arith)
-no_refusal (Byte at) = ⊎_elim (λ z. omega arith) (λ z. omega arith)
-no_refusal First = ⊎_elim (λ z. omega arith) (λ z. omega arith)
-no_refusal Second = ⊎_elim (λ z. omega arith) (λ z. omega arith)
-
--- with 0 and 8 there is no other number
-pub no_other : (n : ℕ) → 0 < n → n < 8 → (n ≡ 0) ⊎ (n ≡ 8) → ⊥
-no_other n a b = ⊎_elim (λ z. omega arith) (λ z. omega arith)
-
 -- of an answer that is known to be one variant
-pub answered_as : {job : List ℕ} {i number w : ℕ} {slice : List ℕ} {a b : Answer}
-    → Answered job i number w (handed_route a) slice → a ≡ b → Answered job i number w (handed_route b) slice
-answered_as {job} {i} {number} {w} {slice} A e = subst (λ (x : Answer). Answered job i number w (handed_route x) slice) e A
+pub answered_as : {job : List ℕ} {i number w : ℕ} {slice : List ℕ} {r : Result Answer RequestRefusal} {a b : Answer}
+    → Answered job i number w (handed_route r) slice → r ≡ Ok a → a ≡ b → Answered job i number w (handed_route (Ok b)) slice
+answered_as {job} {i} {number} {w} {slice} A e f =
+    subst (λ (x : Answer). Answered job i number w (handed_route (Ok x)) slice) f
+    (subst (λ (x : Result Answer RequestRefusal). Answered job i number w (handed_route x) slice) e A)
 
 module _ {job : List ℕ} {i number w : ℕ} {h : Handed Route} {slice : List ℕ} (A : Answered job i number w h slice)
     (small : Small number) (counted : Small h.values.expansions) (tested : Small h.values.tests) where

@@ -2,7 +2,8 @@
 use Prim.Native.Nat.{ℕ}
 use mathlib.Core.Path.{◌≡◌, ap, ◌∙◌}
 use mathlib.Core.List.{List}
-use Rattle.board.specs.Handed.{number_in, place_in, second_in}
+use Rattle.board.specs.declared.row.Row.{Row}
+use Rattle.board.specs.Row.{row_of}
 use Rattle.refusals.specs.declared.JobRefusal.{JobRefusal}
 use Rattle.refusals.specs.Refusals.{refusal_row}
 use Rattle.refusals.proofs.Refusing.{listed}
@@ -17,10 +18,10 @@ module _ (job : List ℕ) (why : JobRefusal) (e : job_rows job ≡ refusal_row w
   pub one_line : line_count job ≡ 1
   one_line = rw (e, (listed why).row_is)
 
-  -- as the code makes it, from the number and the places
-  pub refusal_bytes : {n p s : ℕ} → n ≡ number_in (refusal_row why) → p ≡ place_in (refusal_row why) → s ≡ second_in (refusal_row why)
-      → {r : Line} → Refusing n p s r → (w : ℕ) (path : List ℕ) → bytes_of r w path ≡ line_at job 0
-  refusal_bytes {n} {p} {s} number place second made w path =
+  -- as the code makes it, from the refusal's row
+  pub refusal_bytes : {row : Row} → row_of row ≡ refusal_row why → {r : Line} → Refusing row.number row.place row.second r
+      → (w : ℕ) (path : List ℕ) → bytes_of r w path ≡ line_at job 0
+  refusal_bytes {row} same made w path =
       ap (λ (x : Line). bytes_of x w path) made.line_is
-      ∙ refusing_bytes n p s w path
-      ∙ rw (number, place, second, e, (listed why).row_is)
+      ∙ refusing_bytes row.number row.place row.second w path
+      ∙ rw (e, ← same)

@@ -1,12 +1,12 @@
 -- What the functions of the route program say to each other. The output is said by Output alone.
-use Rattle.std.specs.Prelude.{ℕ, ◌+◌, ◌*◌, ◌≤◌, ◌<◌, ◌≡◌, ◌⊎◌, true, false, List, length, take}
+use Rattle.std.specs.Prelude.{ℕ, ◌+◌, ◌*◌, ◌≤◌, ◌<◌, ◌≡◌, ◌⊎◌, List, length, take, Result, IfOk, IfErr}
 use Rattle.board.specs.Handed.{Handed}
 use Rattle.reach.specs.Turns.{at}
 use Rattle.answer.specs.Answers.{Route}
 use Rattle.lines.specs.Lines.{net_line, none_line}
 use Rattle.netroute.specs.Limits.{widest}
 use Rattle.replies.specs.Output.{line_count, line_at}
-use Rattle.replies.specs.declared.inner.Sent.{Sent}
+use Rattle.replies.specs.declared.inner.LostAfter.{LostAfter}
 
 -- ---- a line before it is sent
 
@@ -27,6 +27,6 @@ pub record Answered (job : List ℕ) (i number w : ℕ) (h : Handed Route) (slic
 -- ---- what was sent
 
 -- all lines of the job, or not all of them if one was lost
-pub record AllSent (job : List ℕ) (r : Sent) : Type 0 where
-  pub all : r.lost ≡ false → r.lines ≡ line_count job
-  pub not_all : r.lost ≡ true → r.lines < line_count job
+pub record AllSent (job : List ℕ) (r : Result ℕ LostAfter) : Type 0 where
+  pub all : IfOk r (λ lines. lines ≡ line_count job)
+  pub not_all : IfErr r (λ why. why.lines < line_count job)

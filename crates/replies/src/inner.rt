@@ -8,23 +8,27 @@ ghost use Rattle.netroute.specs.Limits.{line_room};
 ghost use Rattle.replies.specs.Output.{line_count, line_at};
 ghost use Rattle.replies.specs.Inner.{Answered, AllSent};
 
-use answer::Answer;
-use board::Vertex;
+use answer::{Answer, RequestRefusal};
+use board::{Numbered, Vertex};
 use lines::Line;
 use lines::inner::refusal_line;
 use refusals::JobRefusal;
-use streams::write_whole;
+use streams::{Lost, write_whole};
 use writing::write_line;
 
-// How many lines were sent, and whether the next one was lost.
+// A line was lost after so many were sent.
 #[derive(Clone, Copy)]
-pub struct Sent {
+pub struct LostAfter {
     pub lines: usize,
-    pub lost: bool,
 }
 
-// Hands line `index` of the job, counted from 0, to the system: the bytes are the definition's. Says whether it took them all.
-fn send<R: Print + Eprint + AllocGlobal>(rt: &R, job: &[u8], index: usize, bytes: &[u8]) -> bool
+// Hands line `index` of the job, counted from 0, to the system: the bytes are the definition's.
+fn send<R: Print + Eprint + AllocGlobal>(
+    rt: &R,
+    job: &[u8],
+    index: usize,
+    bytes: &[u8],
+) -> Result<(), Lost>
     requires index_bound { index < line_count job.now }
     requires bytes_value { bytes.now ≡ line_at job.now index }
 {
@@ -40,39 +44,33 @@ fn print<R: Print + Eprint + AllocGlobal>(
     width: usize,
     path: &[Vertex],
     buffer: &mut [u8],
-) -> bool
+) -> Result<(), Lost>
     requires index_bound { index < line_count job.now }
     requires path_value { bytes_of line width path.now ≡ line_at job.now index }
     requires path_in_bounds { length (bytes_of line width path.now) ≤ length buffer.old }
 {
     match write_line(line, width, path, buffer) {
-        lines::Answer::Written(n) => send(rt, job, index, &buffer[..n]),
-        lines::Answer::Short => unreachable!(),
+        Ok(n) => send(rt, job, index, &buffer[..n]),
+        Err(_) => unreachable!(),
     }
 }
 
-// Prints a refused job's one line, which names no vertex.
+// Prints a refused job's one line, which names no vertex. How many lines were sent.
 pub fn print_refusal<R: Print + Eprint + AllocGlobal>(
     rt: &R,
     job: &[u8],
     why: JobRefusal,
     buffer: &mut [u8],
-) -> Sent
+) -> Result<usize, LostAfter>
     requires job_value { job_rows job.now ≡ refusal_row why }
     requires line_room_in_bounds { line_room ≤ length buffer.old }
     ensures { AllSent job.now result }
 {
     let unnamed = [0 as Vertex; 1];
-    let line = refusal_line(why.number(), why.place() as u64, why.second() as u64);
-    if !print(rt, job, 0, line, 0, &unnamed, buffer) {
-        return Sent {
-            lines: 0,
-            lost: true,
-        };
-    }
-    Sent {
-        lines: 1,
-        lost: false,
+    let line = refusal_line(why.row());
+    match print(rt, job, 0, line, 0, &unnamed, buffer) {
+        Ok(()) => Ok(1),
+        Err(_) => Err(LostAfter { lines: 0 }),
     }
 }
 
@@ -82,22 +80,22 @@ pub fn print_answer<R: Print + Eprint + AllocGlobal>(
     job: &[u8],
     index: usize,
     number: u64,
-    answer: Answer,
+    answer: Result<Answer, RequestRefusal>,
     width: usize,
     path: &[Vertex],
     buffer: &mut [u8],
-) -> bool
+) -> Result<(), Lost>
     requires answered { Answered job.now index number width (handed_route answer) path.now }
     requires line_room_in_bounds { line_room ≤ length buffer.old }
 {
+    let Ok(answer) = answer else { unreachable!() };
     match answer {
         Answer::Found {
-            cells: _,
             units,
             vertices,
-            legs: _,
             expansions,
             tests,
+            ..
         } => {
             let line = Line::Path {
                 number,
@@ -115,8 +113,5 @@ pub fn print_answer<R: Print + Eprint + AllocGlobal>(
             };
             print(rt, job, index, line, width, path, buffer)
         }
-        Answer::Refused(_) => unreachable!(),
-        Answer::Work => unreachable!(),
-        Answer::Short(_) => unreachable!(),
     }
 }

@@ -8,48 +8,57 @@ use native.Mathlib.Omega.{arith}
 use lib.Dec.{lit<}
 use lib.ListN.{length, set}
 use borrow.Author.Tests.{le-ltb}
+use Rattle.std.specs.Prelude.{true, Result, Ok, Err, is_ok}
 use Rattle.board.specs.Limits.{largest_side}
 use Rattle.board.specs.Handed.{Handed, answer, judged, refusal_row}
 use Rattle.board.specs.declared.Refusal.{Refusal}
 use Rattle.board.specs.declared.Refusal.TheVariants.{Side, Count, Byte, First, Second}
-use Rattle.spans.specs.Legs.{step, vertex_rows}
-use Rattle.length.specs.Units.{units}
-use Rattle.length.specs.Answers.{Long, no_length, length_between_row}
+use Rattle.spans.specs.Legs.{vertex_rows}
+use Rattle.length.specs.declared.Length.{Length}
+use Rattle.length.specs.Answers.{Long, no_length, handed_length, length_between_row}
 use Rattle.problem.proofs.Sizes.{leg_longest}
-use Rattle.tracks.specs.Tracks.{Point}
+use Rattle.tracks.specs.Tracks.{Point, routes_in}
+use Rattle.bureau.specs.declared.Points.{Points}
 use Rattle.bureau.specs.Paths.{point_at, total, leg_units, units_along}
-use Rattle.bureau.specs.Inner.{PointsSmall, Measured}
+use Rattle.bureau.specs.Nets.{points_for}
+use Rattle.bureau.specs.Inner.{record_points, PointsOf, PointsSmall, Measured}
 
 -- ---- a leg
 
-pub leg_length : {ax ay bx by : ℕ} {p q : Point} {u : ℕ} → ax ≡ p.x → ay ≡ p.y → bx ≡ q.x → by ≡ q.y → u ≡ units (step ax bx) (step ay by)
-    → u ≡ leg_units p q
-leg_length e f g h i = i ∙ rw (e, f, g, h)
+-- a refusal has a number above 0
+refuses : (why : Refusal) → (judged no_length (refusal_row why)).number ≡ 0 → ⊥
+refuses Side e = omega (arith, e)
+refuses Count e = omega (arith, e)
+refuses (Byte at) e = omega (arith, e)
+refuses First e = omega (arith, e)
+refuses Second e = omega (arith, e)
 
-module _ (ax ay bx by : ℕ) (a : ax ≤ largest_side) (b : ay ≤ largest_side) (c : bx ≤ largest_side) (d : by ≤ largest_side) where
-  between_is : length_between_row ax ay bx by ≡ answer (record { units = units (step ax bx) (step ay by) })
+-- between vertices that some board has there is a length, and it is small
+module _ (from to : Point) (a : (from.x ≤ largest_side) × (from.y ≤ largest_side)) (b : (to.x ≤ largest_side) × (to.y ≤ largest_side)) where
+  between_is : length_between_row from.x from.y to.x to.y ≡ answer (record { units = leg_units from to })
   unfolding length_between_row vertex_rows
-  between_is = rw (le-ltb largest_side ax a, le-ltb largest_side ay b, le-ltb largest_side bx c, le-ltb largest_side by d)
+  between_is =
+      rw (le-ltb largest_side from.x a.0, le-ltb largest_side from.y a.1, le-ltb largest_side to.x b.0, le-ltb largest_side to.y b.1)
 
-  small : units (step ax bx) (step ay by) < 134217728
-  small = lt_of_le_of_lt (leg_longest largest_side largest_side ax ay bx by a b c d) (lit< tt)
+  leg_small : leg_units from to < 134217728
+  leg_small = lt_of_le_of_lt (leg_longest largest_side largest_side from.x from.y to.x to.y a.0 a.1 b.0 b.1) (lit< tt)
 
-  pub units_told : {h : Handed Long} {u : ℕ} → h ≡ length_between_row ax ay bx by → u ≡ h.values.units
-      → (u ≡ units (step ax bx) (step ay by)) × (u < 134217728)
-  units_told {h} {u} e f =
-      let g : u ≡ units (step ax bx) (step ay by) = f ∙ ap (λ (v : Handed Long). v.values.units) (e ∙ between_is) in
-      (g, omega (arith, small))
+  pub length_there : (r : Result Length Refusal) → handed_length r ≡ length_between_row from.x from.y to.x to.y → is_ok r ≡ true
+  length_there (Ok l) e = refl
+  length_there (Err why) e = absurd (refuses why (ap (λ (h : Handed Long). h.number) (e ∙ between_is)))
 
-pub no_units : (why : Refusal) → 0 ≡ (judged no_length (refusal_row why)).values.units
-no_units Side = refl
-no_units Count = refl
-no_units (Byte at) = refl
-no_units First = refl
-no_units Second = refl
+  pub units_told : {r : Result Length Refusal} {l : Length} → handed_length r ≡ length_between_row from.x from.y to.x to.y → r ≡ Ok l
+      → (l.units ≡ leg_units from to) × (l.units < 134217728)
+  units_told {r} {l} e f =
+      let g : l.units ≡ leg_units from to = ap (λ (h : Handed Long). h.values.units) (sym (ap handed_length f) ∙ e ∙ between_is) in
+      (g, omega (arith, leg_small))
 
--- a coordinate that was read is at most the largest side
-pub side_read : {n : ℕ} {p : ℕ → Point} (k : ℕ) {x y : ℕ} → PointsSmall n p → k < n → x ≡ (p k).x → y ≡ (p k).y → (x ≤ largest_side) × (y ≤ largest_side)
-side_read k P l e f = (omega (arith, (P.small k l).0), omega (arith, (P.small k l).1))
+-- a point that was read has coordinates that some board has
+pub point_small : {n : ℕ} {p : ℕ → Point} (k : ℕ) {q : Point} → PointsSmall n p → k < n → q ≡ p k → (q.x ≤ largest_side) × (q.y ≤ largest_side)
+point_small k P l e = rw e (P.small k l)
+
+pub leg_told : {from to p q : Point} {u : ℕ} → from ≡ p → to ≡ q → u ≡ leg_units from to → u ≡ leg_units p q
+leg_told e f h = h ∙ ap₂ leg_units e f
 
 -- ---- the sum over the legs
 
@@ -76,16 +85,21 @@ units_same n p q h = total_same _ _ (n - 1) (λ k l. ap₂ leg_units (h k (omega
 
 -- ---- what is written
 
-module _ (ps : List Point) (n : ℕ) (q : ℕ → Point) (e : length ps ≡ n) (h : (k : ℕ) → k < n → point_at ps k ≡ q k) where
-  pub small_read : PointsSmall (length ps) (point_at ps) → PointsSmall n q
-  small_read S = record { small = λ k l. rw (h k l) at (S.small k (omega arith)) }
+module _ {file : List ℕ} {number : ℕ} {points : Points} (P : PointsOf file number points) where
+  pub small_read : PointsSmall (length (points_for (routes_in file) number)) (point_at (points_for (routes_in file) number))
+      → PointsSmall points.count (record_points file points.first)
+  small_read S = record { small = λ k l. rw (P.point_is k l) at (S.small k (omega (arith, P.length_is))) }
 
-  pub measured : (index : ℕ) (units leg_counts : List ℕ) {u : ℕ} → u ≡ units_along n q
-      → Measured ps index units leg_counts (set units index u) (set leg_counts index (n - 1))
-  measured index units leg_counts f = record {
-    units_are = ap (λ (v : ℕ). set units index v) (f ∙ sym (units_same n (point_at ps) q h) ∙ ap (λ (m : ℕ). units_along m (point_at ps)) (sym e));
-    counts_are = ap (λ (m : ℕ). set leg_counts index (m - 1)) (sym e);
-  }
+  pub measured : (index : ℕ) (units leg_counts : List ℕ) {u : ℕ} → u ≡ units_along points.count (record_points file points.first)
+      → Measured (points_for (routes_in file) number) index units leg_counts (set units index u) (set leg_counts index (points.count - 1))
+  measured index units leg_counts f =
+      let ps = points_for (routes_in file) number in
+      record {
+        units_are = ap (λ (v : ℕ). set units index v)
+            (f ∙ sym (units_same points.count (point_at ps) (record_points file points.first) P.point_is)
+            ∙ ap (λ (m : ℕ). units_along m (point_at ps)) (sym P.length_is));
+        counts_are = ap (λ (m : ℕ). set leg_counts index (m - 1)) (sym P.length_is);
+      }
 
 pub measured_none : {ps : List Point} (index : ℕ) (units leg_counts : List ℕ) → ps ≡ []
     → Measured ps index units leg_counts (set units index 0) (set leg_counts index 0)

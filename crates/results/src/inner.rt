@@ -2,44 +2,39 @@
 ghost use Rattle.std.specs.Prelude.{◌≡◌, ◌+◌, ◌≤◌, ◌<◌, length};
 ghost use Rattle.board.specs.Handed.{passes};
 ghost use Rattle.board.specs.Limits.{largest_side};
-ghost use Rattle.spans.specs.Legs.{step};
-ghost use Rattle.length.specs.Units.{units};
 ghost use Rattle.records.specs.Records.{records};
 ghost use Rattle.tracks.specs.Tracks.{routes_in};
 ghost use Rattle.tracks.specs.Faults.{file_rows};
-ghost use Rattle.bureau.specs.Paths.{point_at, units_along};
+ghost use Rattle.bureau.specs.Paths.{point_at, leg_units, units_along};
 ghost use Rattle.bureau.specs.Nets.{points_for};
-ghost use Rattle.bureau.specs.Inner.{record_points, PointsSmall, Measured};
+ghost use Rattle.bureau.specs.Inner.{as_point, record_points, PointsSmall, Measured};
 
-use length::{Length, Measured as LegMeasured};
-use records::inner::byte_of;
-use runs::inner::{count_points, first_record, has_point};
-use waypoints::inner::{X, Y};
+use bureau::{Point, Points};
+use length::Length;
+use runs::inner::find_points;
+use waypoints::inner::point_at;
 
-// The length of the leg from (ax, ay) to (bx, by), in units.
-fn leg_units(ax: usize, ay: usize, bx: usize, by: usize) -> u64
-    requires { (ax ≤ largest_side) × (ay ≤ largest_side) × (bx ≤ largest_side) × (by ≤ largest_side) }
-    ensures { (result ≡ units (step ax bx) (step ay by)) × (result < 134217728) }
+// The length of the leg from one point to another, in units.
+fn leg_units(from: Point, to: Point) -> u64
+    requires from_small { (from.x ≤ largest_side) × (from.y ≤ largest_side) }
+    requires to_small { (to.x ≤ largest_side) × (to.y ≤ largest_side) }
+    ensures { (result ≡ leg_units (as_point from) (as_point to)) × (result < 134217728) }
 {
-    match Length::between(ax, ay, bx, by) {
-        LegMeasured::Of(length) => length.units,
-        LegMeasured::Refused(_) => 0,
-    }
+    let length = Length::between(from.x, from.y, to.x, to.y).unwrap();
+    length.units
 }
 
 // The sum over the legs between points that some board has.
-fn units_along(file: &[u8], first: usize, n: usize) -> u64
-    requires n_nonzero { (0 < n) × (n ≤ 65536) × (first + n ≤ records file.now) }
-    requires points_small { PointsSmall n (record_points file.now first) }
-    ensures { result ≡ units_along n (record_points file.now first) }
+fn units_along(file: &[u8], points: Points) -> u64
+    requires count_nonzero { (0 < points.count) × (points.count ≤ 65536) × (points.first + points.count ≤ records file.now) }
+    requires points_small { PointsSmall points.count (record_points file.now points.first) }
+    ensures { result ≡ units_along points.count (record_points file.now points.first) }
 {
     let mut sum = 0u64;
-    for k in 0..n - 1 {
-        let ax = byte_of(file, first + k, X);
-        let ay = byte_of(file, first + k, Y);
-        let bx = byte_of(file, first + (k + 1), X);
-        let by = byte_of(file, first + (k + 1), Y);
-        sum += leg_units(ax, ay, bx, by);
+    for k in 0..points.count - 1 {
+        let from = point_at(file, points.first + k);
+        let to = point_at(file, points.first + (k + 1));
+        sum += leg_units(from, to);
     }
     sum
 }
@@ -51,13 +46,14 @@ pub fn write_net(file: &[u8], number: usize, index: usize, units: &mut [u64], co
     requires index_in_bounds { (index < length units.old) × (index < length counts.old) }
     ensures { Measured (points_for (routes_in file.now) number) index units.old counts.old units.new counts.new }
 {
-    let first = first_record(file, number);
-    if !has_point(file, first) {
-        units[index] = 0;
-        counts[index] = 0;
-        return;
+    match find_points(file, number) {
+        None => {
+            units[index] = 0;
+            counts[index] = 0;
+        }
+        Some(points) => {
+            units[index] = units_along(file, points);
+            counts[index] = (points.count - 1) as u32;
+        }
     }
-    let n = count_points(file, first);
-    units[index] = units_along(file, first, n);
-    counts[index] = (n - 1) as u32;
 }

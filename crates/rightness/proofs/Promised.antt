@@ -21,7 +21,8 @@ use Rattle.faults.specs.Faults.{job_rows}
 use Rattle.faults.specs.Inner.{Accepted}
 use Rattle.tracks.specs.Tracks.{Point, Route, routes_in}
 use Rattle.tracks.specs.Faults.{file_rows}
-use Rattle.bureau.specs.declared.CheckAnswer.{CheckAnswer}
+use Rattle.std.specs.Prelude.{Result}
+use Rattle.bureau.specs.declared.CheckRefusal.{CheckRefusal}
 use Rattle.bureau.specs.Paths.{point_at, problem_of, none_row, net_rows}
 use Rattle.bureau.specs.Nets.{job_board, job_net, points_for, odd_net, net_numbers, odd_row, net_row, nets_rows}
 use Rattle.bureau.specs.Answers.{Nets, no_nets, handed_check, Slices, work_row, room_rows, early_rows, check_rows, check_row, Checked}
@@ -209,10 +210,10 @@ module _ (job file : List ℕ) (lent : Slices) where
     }
 
 -- of the call
-pub call_accepted_exactly : {job file : List ℕ} {before after : Slices} {r : CheckAnswer} → Checked job file before after r
+pub call_accepted_exactly : {job file : List ℕ} {before after : Slices} {r : Result ℕ CheckRefusal} → Checked job file before after r
     → AcceptedExactly job file before (handed_check r)
 call_accepted_exactly {job} {file} {before} c = accepted_exactly job file before c.row_is
 
-pub call_none_exactly : {job file : List ℕ} {before after : Slices} {r : CheckAnswer} → Checked job file before after r
+pub call_none_exactly : {job file : List ℕ} {before after : Slices} {r : Result ℕ CheckRefusal} → Checked job file before after r
     → NoneExactly job file (handed_check r)
 call_none_exactly {job} {file} {before} c = none_exactly job file before c.row_is

@@ -2,17 +2,16 @@
 ghost use Rattle.std.specs.Prelude.{◌≡◌, ◌+◌, ◌-◌, ◌/◌, ◌%◌, ◌^◌, ◌≤◌, ◌<◌};
 ghost use Rattle.board.specs.Board.{number_of};
 ghost use Rattle.board.specs.Limits.{largest_side};
-ghost use Rattle.offers.specs.Request.{board_of, asked, size_of, diagonal};
+ghost use Rattle.offers.specs.Request.{asked, size_of};
 ghost use Rattle.offers.specs.Offers.{Taken, ListedFor};
-ghost use Rattle.guard.specs.Guard.{Guarded};
-ghost use Rattle.table.specs.Lengths.{Known};
 ghost use Rattle.theta.specs.Lent.{state, Rounded};
 
 use board::Vertex;
 use glance::inner::sighted;
-use glance::places::{first_place, without_first};
+use glance::places::Places;
 use looks::inner::look;
-use offers::{Request, Spot};
+use offers::Spot;
+use offers::request::Request;
 
 // The vertex at the place k round u, four places to a row.
 fn spot_at(width: usize, u: Spot, k: usize) -> Spot
@@ -33,9 +32,7 @@ fn spot_at(width: usize, u: Spot, k: usize) -> Spot
 
 // The neighbours that u sees, which one look at the cells round it tells, place by place.
 pub fn round(
-    cells: &[u8],
-    guard: &[u8],
-    request: Request,
+    request: &Request<'_, '_>,
     u: Spot,
     parent: Spot,
     tests: u64,
@@ -45,23 +42,20 @@ pub fn round(
     legs: &mut [Vertex],
     leads: &mut [Vertex],
     keys: &mut [u64],
-    table: &[u32],
 ) -> u64
-    requires taken { Taken cells.now request u parent (state g.old parents.old marks.old legs.old 0 tests) }
+    requires taken { Taken request.now u parent (state g.old parents.old marks.old legs.old 0 tests) }
     requires tests_bound { tests < 2 ^ 62 }
-    requires listed_for { ListedFor request g.old marks.old legs.old leads.old keys.old }
-    requires known { Known (diagonal request) table.now }
-    requires guarded { Guarded (board_of cells.now request) guard.now }
-    ensures rounded { Rounded (asked cells.now request) u.number (size_of request) (state g.old parents.old marks.old legs.old 0 tests) (state g.new parents.new marks.new legs.new 0 result) }
-    ensures listed_for_2 { ListedFor request g.new marks.new legs.new leads.new keys.new }
+    requires listed_for { ListedFor request.now g.old marks.old legs.old leads.old keys.old }
+    ensures rounded { Rounded (asked request.now) u.number (size_of request.now) (state g.old parents.old marks.old legs.old 0 tests) (state g.new parents.new marks.new legs.new 0 result) }
+    ensures listed_for_2 { ListedFor request.now g.new marks.new legs.new leads.new keys.new }
 {
-    let mut left = sighted(cells, guard, request.width, request.height, u.x, u.y);
+    let width = request.guarded.board.width;
+    let seen = sighted(&request.guarded, u.x, u.y);
     let mut t = tests;
-    while left != 0 {
-        let w = spot_at(request.width, u, first_place(left));
-        left = without_first(left);
+    for place in (Places { left: seen }) {
+        let w = spot_at(width, u, place);
         t = look(
-            cells, guard, request, u, parent, w, t, g, parents, marks, legs, leads, keys, table,
+            request, u, parent, w, t, g, parents, marks, legs, leads, keys,
         );
     }
     t

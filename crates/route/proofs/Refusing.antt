@@ -7,7 +7,7 @@ use native.Mathlib.Omega.{arith}
 use lib.Dec.{ltb, eqb}
 use lib.ListN.{length}
 use borrow.Author.Tests.{eqb-false, le-ltb}
-use Rattle.board.specs.Handed.{Verdict, passes, refused, row, and_then, Handed, judged, number_in}
+use Rattle.board.specs.Handed.{Verdict, passes, refused, row, and_then, Handed, judged}
 use Rattle.board.proofs.Verdicts.{Within, row_within, then_within, no_pass}
 use Rattle.board.proofs.Rows.{cells_few}
 use Rattle.records.specs.Records.{records, byte, record_bytes, unused_row}
@@ -22,7 +22,8 @@ use Rattle.refusals.specs.Refusals.{refusal_row}
 use Rattle.faults.specs.Inner.{Accepted}
 use Rattle.refusals.proofs.Refusing.{is_own, listed, not_own, refuses}
 use Rattle.faults.proofs.Accepted.{width_fits, height_fits}
-use Rattle.job.specs.declared.BoardAnswer.TheVariants as board-read
+use Rattle.std.specs.Prelude.{Err}
+use Rattle.job.specs.declared.BoardRefusal.TheVariants as unread
 use Rattle.job.specs.Answers.{Sides, no_sides, handed_board, board_row, BoardRead}
 use Rattle.netroute.specs.Limits.{cell_room}
 
@@ -69,7 +70,7 @@ module _ (job : List ℕ) where
       false≢true (subst (λ (k : ℕ). is_own k ≡ true) (sym z) o)
 
   pub board_fits : {before after : List ℕ} → cell_room ≤ length before
-      → BoardRead job before (handed_board board-read.Short) after → ⊥
+      → BoardRead job before (handed_board (Err unread.Short)) after → ⊥
   board_fits {before} room r = not_short (job_rows job) refl (length before) room r.row_is
 
   -- a refused board read: the rows refuse the job so
@@ -77,13 +78,14 @@ module _ (job : List ℕ) where
       → v ≡ refusal_row why
   refused_by passes why true r =
       let k = listed why in
-      let z : 19 ≡ k.number = ap number_in (r ∙ k.row_is) in
+      let same = r ∙ k.row_is in
+      let z : 19 ≡ k.number = cc in
       absurd (eqb-false k.number 19 (not_own k 19 refl) (sym z))
   refused_by passes why false r = absurd (no_pass (sym (r ∙ (listed why).row_is)))
   refused_by (refused n p s) why short r = r
 
   pub board_refused : {before after : List ℕ} (why : JobRefusal)
-      → BoardRead job before (handed_board (board-read.Refused why)) after → job_rows job ≡ refusal_row why
+      → BoardRead job before (handed_board (Err (unread.Job why))) after → job_rows job ≡ refusal_row why
   unfolding board_row
   board_refused {before} why r =
       let short = ltb (length before) (width job * height job) in

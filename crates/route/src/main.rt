@@ -6,10 +6,11 @@ ghost use Rattle.netroute.specs.Limits.{cell_room, line_room};
 ghost use Rattle.replies.specs.Inner.{AllSent};
 
 use faults::LONGEST;
-use job::{BoardAnswer, read_board};
+use job::{BoardRefusal, read_board};
+use lines::{FIELD, WORDS};
 use netroute::{VERTICES, WIDEST};
 use nets::inner::print_nets;
-use replies::inner::{Sent, print_refusal};
+use replies::inner::{LostAfter, print_refusal};
 use streams::read_job;
 
 // One byte more than the longest job, so that a longer one is known.
@@ -18,8 +19,8 @@ const ROOM: usize = LONGEST + 1;
 // The cells of the widest board.
 const CELLS: usize = WIDEST * WIDEST;
 
-// The bytes that suffice for each of its lines: words and four numbers of 20 digits, and 6 for each vertex.
-const LINE: usize = 31 + 4 * 20 + 6 * VERTICES;
+// The bytes that suffice for each of its lines.
+const LINE: usize = WORDS + FIELD * VERTICES;
 
 // The constants are the definitions' numbers.
 fn cell_room() -> usize
@@ -34,31 +35,25 @@ fn line_room() -> usize
     LINE
 }
 
-// What the program prints for a job.
-fn serve<R: Print + Eprint + AllocGlobal>(rt: &R, job: &[u8]) -> Sent
+// Prints what there is to say of a job. How many lines were sent.
+fn serve<R: Print + Eprint + AllocGlobal>(rt: &R, job: &[u8]) -> Result<usize, LostAfter>
     ensures { AllSent job.now result }
 {
     let mut board = [0u8; CELLS];
     let mut buffer = [0u8; LINE];
     match read_board(job, &mut board) {
-        BoardAnswer::Board {
-            width,
-            height,
-            nets,
-        } => {
-            let cells = &board[..width * height];
-            print_nets(rt, job, cells, width, height, nets, &mut buffer)
+        Ok(sides) => {
+            let cells = &board[..sides.width * sides.height];
+            print_nets(rt, job, cells, sides, &mut buffer)
         }
-        BoardAnswer::Refused(why) => print_refusal(rt, job, why, &mut buffer),
-        BoardAnswer::Short => unreachable!(),
+        Err(BoardRefusal::Job(why)) => print_refusal(rt, job, why, &mut buffer),
+        Err(BoardRefusal::Short) => unreachable!(),
     }
 }
 
 fn main(rt: HostRuntime) {
     let mut job = [0u8; ROOM];
-    let input = read_job(&rt, &mut job);
-    let n = input.bytes;
-    if input.ended {
-        serve(&rt, &job[..n]);
+    if let Ok(n) = read_job(&rt, &mut job) {
+        let _ = serve(&rt, &job[..n]);
     }
 }

@@ -4,8 +4,9 @@
 ghost use Rattle.board.specs.Board.{board};
 ghost use Rattle.answer.specs.Answers.{handed_route, slices, Routed};
 
-pub use answer::Answer;
-use board::{Checked, Vertex, check_leg};
+pub use answer::{Answer, RequestRefusal};
+use board::Vertex;
+use legs::leg::Leg;
 use running::inner::search_route;
 
 // The route from (sx, sy) to (gx, gy). The lent slices hold the search's g, parents, marks and legs afterwards, and the path.
@@ -22,20 +23,15 @@ pub fn route(
     marks: &mut [u8],
     legs: &mut [Vertex],
     path: &mut [Vertex],
-) -> Answer
+) -> Result<Answer, RequestRefusal>
     ensures { Routed (board cells.now width height) sx sy gx gy (slices g.old parents.old marks.old legs.old path.old) (slices g.new parents.new marks.new legs.new path.new) (handed_route result) }
 {
-    let checked = check_leg(cells, width, height, sx, sy, gx, gy);
-    if let Checked::Refused(why) = checked {
-        return Answer::Refused(why);
-    }
+    let asked = Leg::checked(cells, width, height, sx, sy, gx, gy)?;
     let vertices = (width + 1) * (height + 1);
     if (g.len() < vertices)
         | ((parents.len() < vertices) | ((marks.len() < vertices) | (legs.len() < vertices)))
     {
-        return Answer::Work;
+        return Err(RequestRefusal::Work);
     }
-    search_route(
-        cells, width, height, sx, sy, gx, gy, g, parents, marks, legs, path,
-    )
+    search_route(&asked, g, parents, marks, legs, path)
 }

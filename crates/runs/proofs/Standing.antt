@@ -2,25 +2,28 @@
 use Prim.Native.Nat.{ℕ, zero, suc, ◌+◌, ◌-◌, ◌≤◌, ◌<◌}
 use mathlib.Core.Path.{◌≡◌, refl, sym, ap, ◌∙◌}
 use mathlib.Core.Logic.{◌≢◌, ⊎_elim}
-use mathlib.Core.Bool.{Bool, true, false, ◌&&◌, ◌||◌, cond, true≢false}
+use mathlib.Core.Bool.{Bool, true, false, ◌||◌, not, cond, true≢false}
 use mathlib.Core.List.{List, [], ◌∷◌}
 use native.Mathlib.Omega.{arith}
 use lib.Dec.{ltb, eqb}
 use lib.ListN.{length}
-use borrow.Author.Tests.{eqb-true, eqb-false, eq-eqb, ne_eqb, lt-ltb, ltb-true, not-false}
-use Rattle.laws.proofs.Tests.{order, bool_cases, and_left, and_right, or_left, or_right, or_cases, same_test}
+use borrow.Author.Tests.{eqb-true, eqb-false, eq-eqb, ne_eqb, lt-ltb, ltb-true, not-true, not-false}
+use Rattle.std.specs.Prelude.{Option, Some, None, MatchOption, is_some, unwrap_or}
+use Rattle.laws.proofs.Tests.{order, bool_cases, or_left, or_right, or_cases, same_test}
 use Rattle.laws.proofs.Below.{first_passes, first_before, some_none}
 use Rattle.board.specs.Handed.{passes}
 use Rattle.records.specs.Records.{records, in_order, is_in}
 use Rattle.tracks.specs.Tracks.{Point, Route, is_point, net_of, place_of, point_of, with_point, with_record, routes_from, routes_in}
-use Rattle.tracks.specs.Faults.{record_rows, has_earlier, is_first_wrong, is_net_wrong, is_wrong}
+use Rattle.tracks.specs.Faults.{file_rows, record_rows, has_earlier, is_first_wrong, is_net_wrong, is_wrong}
 use Rattle.tracks.specs.Layout.{numbers_of}
 use Rattle.tracks.proofs.Before.{passed, rising}
+use Rattle.tracks.proofs.Theorems.{all_records}
 use Rattle.tracks.proofs.Trips as trips
 use Rattle.tracks.proofs.Trips.{After, after, Led, some_leads}
 use Rattle.bureau.specs.Paths.{point_at}
 use Rattle.bureau.specs.Nets.{points_for, in_routes}
-use Rattle.bureau.specs.Inner.{first_record, Run, Stretch, LastOf}
+use Rattle.bureau.specs.Inner.{place_before, first_record, Run, Stretch, LastOf, PointsOf}
+use Rattle.bureau.proofs.Finding.{place_some, place_none}
 
 -- ---- which nets the routes of a file have
 
@@ -91,8 +94,14 @@ module _ (file : List ℕ) (number : ℕ) where
       let l = ltb-true (first_record file number) (records file) h in
       some_in (records file) 0 (first_record file number) (omega arith) (omega arith) (first_is l))
 
-  pub routes_told : {first : ℕ} → first ≡ first_record file number → ltb first (records file) ≡ in_routes (routes_in file) number
-  routes_told e = ap (λ (i : ℕ). ltb i (records file)) e ∙ sym routes_have
+-- the code looks for a record
+pub record_told : (file : List ℕ) (number : ℕ) {r : Option ℕ} → r ≡ place_before (first_record file number) (records file)
+    → is_some r ≡ in_routes (routes_in file) number
+record_told file number e = ap is_some e ∙ told (ltb (first_record file number) (records file)) (first_record file number) ∙ sym (routes_have file number)
+  where
+    told : (t : Bool) (i : ℕ) → is_some (cond t (Some i) None) ≡ t
+    told true i = refl
+    told false i = refl
 
 -- ---- the points of a net, record by record
 
@@ -284,23 +293,11 @@ module _ (file : List ℕ) (number : ℕ) where
         pub run_at : (k : ℕ) → k < n → point_at (points_for (routes_in file) number) k ≡ point_of file (first + k)
         run_at k b = ap (λ (ps : List Point). point_at ps k) run_list ∙ list_at n first k b
 
--- what the code asks: there is a first record, and it is a point
-module _ (file : List ℕ) (number : ℕ) (all : in_order (records file) (record_rows file) ≡ passes) (first : ℕ) (is : first ≡ first_record file number) where
-  pub no_points : (ltb first (records file) && is_point file first) ≡ false → points_for (routes_in file) number ≡ []
-  no_points h =
-      ⊎_elim
-      (λ (l : first < records file). none_given file number all first is l (rw (lt-ltb first (records file) l) at h))
-      (λ (l : records file ≤ first). none_there file number all (rw (← is) l))
-      (order first (records file))
-
-  pub some_points : (ltb first (records file) && is_point file first) ≡ true
-      → (first < records file) × (is_point file first ≡ true) × (place_of file first ≡ 0)
-  some_points h =
-      let l = ltb-true first (records file) (and_left (ltb first (records file)) (is_point file first) h) in
-      let p = and_right (ltb first (records file)) (is_point file first) h in
-      (l, p, first_place file number all first is l p)
-
 -- ---- a run is found record by record
+
+-- record k is of another net than this one
+abbrev pub is_other : List ℕ → (number : ℕ) → ℕ → Bool
+is_other file number k = not (eqb (net_of file k) number)
 
 module _ (file : List ℕ) (all : in_order (records file) (record_rows file) ≡ passes) (first : ℕ) where
   pub stretch_begins : first < records file → is_point file first ≡ true → place_of file first ≡ 0 → Stretch file first first
@@ -344,14 +341,64 @@ module _ (file : List ℕ) (all : in_order (records file) (record_rows file) ≡
         ends = rw f L.ends;
       }
 
-  -- the same as the code counts on
-  pub stretch_next : (last : ℕ) → Stretch file first last → last + 1 < records file → net_of file (last + 1) ≡ net_of file first
-      → Stretch file first (last + 1)
-  stretch_next last s l e = let n : last + 1 ≡ suc last = omega arith in rw n (stretch_more last s (rw n at l) (rw n at e))
+  -- records of one net, one after the other, are its points
+  module _ (l : first < records file) (p : is_point file first ≡ true) (z : place_of file first ≡ 0) where
+    stretch_to : (d : ℕ) → first + d < records file → ((k : ℕ) → first ≤ k → k < suc (first + d) → net_of file k ≡ net_of file first)
+        → Stretch file first (first + d)
+    stretch_to zero m same = let e : first + 0 ≡ first = omega arith in rw e (stretch_begins l p z)
+    stretch_to (suc d) m same =
+        let e : first + suc d ≡ suc (first + d) = omega arith in
+        rw e (stretch_more (first + d) (stretch_to d (omega arith) (λ k a b. same k a (omega arith))) (omega arith)
+        (same (suc (first + d)) (omega arith) (omega arith)))
 
--- the last one: another net follows, or nothing
-pub last_here : {file : List ℕ} {first : ℕ} (last : ℕ) → Stretch file first last → net_of file (last + 1) ≢ net_of file first → LastOf file first last
-last_here last s h = let n : last + 1 ≡ suc last = omega arith in record { stretch = s; ends = λ l. rw n at h }
+    last_before : (end : ℕ) → first < end → end ≤ records file → ((k : ℕ) → first ≤ k → k < end → net_of file k ≡ net_of file first)
+        → (end < records file → net_of file end ≢ net_of file first) → LastOf file first (end - 1)
+    last_before end a b same h =
+        let e : first + (end - 1 - first) ≡ end - 1 = omega arith in
+        let s : suc (end - 1) ≡ end = omega arith in
+        record { stretch = rw e at (stretch_to (end - 1 - first) (omega arith) (λ k x y. same k x (omega arith))); ends = rw s h }
 
-pub last_end : {file : List ℕ} {first : ℕ} (last : ℕ) → Stretch file first last → records file ≤ last + 1 → LastOf file first last
-last_end last s l = record { stretch = s; ends = λ m. absurd (omega arith) }
+    -- the code looks for a record of another net
+    module _ {number : ℕ} (is : number ≡ net_of file first) where
+      one_net : (k : ℕ) → is_other file number k ≡ false → net_of file k ≡ net_of file first
+      one_net k h = eqb-true (net_of file k) number (not-false (eqb (net_of file k) number) h) ∙ is
+
+      other_net : (k : ℕ) → is_other file number k ≡ true → net_of file k ≢ net_of file first
+      other_net k h e = eqb-false (net_of file k) number (not-true (eqb (net_of file k) number) h) (e ∙ sym is)
+
+      pub last_told : (r : Option ℕ) → MatchOption r ((k : ℕ) → first ≤ k → k < records file → is_other file number k ≡ false)
+          (λ i. (first ≤ i) × (i < records file) × (is_other file number i ≡ true)
+          × ((k : ℕ) → first ≤ k → k < i → is_other file number k ≡ false))
+          → (1 ≤ unwrap_or r (records file)) × LastOf file first (unwrap_or r (records file) - 1)
+      last_told None h = (omega (arith, l), last_before (records file) l (omega arith) (λ k a b. one_net k (h k a b)) (λ b. absurd (omega arith)))
+      last_told (Some i) h =
+          let other = other_net i h.2 in
+          let above : first < i =
+          ⊎_elim (λ (b : first < i). b) (λ (b : i ≤ first). let e : i ≡ first = omega (arith, h.0) in absurd (other (ap (net_of file) e))) (order first i) in
+          (omega (arith, above), last_before i above (omega (arith, h.1)) (λ k a b. one_net k (h.3 k a b)) (λ b. other))
+
+-- ---- what the code asks: the net's first record, if there is one, and whether it is a point
+
+module _ (file : List ℕ) (number : ℕ) (clean : file_rows file ≡ passes) where
+  pub no_record : None ≡ place_before (first_record file number) (records file) → points_for (routes_in file) number ≡ []
+  no_record e = none_there file number (all_records file clean) (place_none (first_record file number) (records file) e)
+
+  module _ {first : ℕ} (found : Some first ≡ place_before (first_record file number) (records file)) where
+    there : (first < records file) × (first ≡ first_record file number)
+    there = place_some (first_record file number) (records file) found
+
+    pub no_point : is_point file first ≡ false → points_for (routes_in file) number ≡ []
+    no_point p = none_given file number (all_records file clean) first there.1 there.0 p
+
+    module _ (p : is_point file first ≡ true) where
+      pub begins : (first < records file) × (is_point file first ≡ true) × (place_of file first ≡ 0)
+      begins = (there.0, p, first_place file number (all_records file clean) first there.1 there.0 p)
+
+      pub points_are : {n : ℕ} → Run file first n × (n ≤ 65536) → PointsOf file number (record { first = first; count = n })
+      points_are {n} r = record {
+        some = r.0.some;
+        few = r.1;
+        within = r.0.within;
+        length_is = run_length file number (all_records file clean) first there.1 there.0 n r.0;
+        point_is = run_at file number (all_records file clean) first there.1 there.0 n r.0;
+      }

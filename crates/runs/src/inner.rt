@@ -1,37 +1,21 @@
 // Calls for the crates above: each says what it requires.
-ghost use Rattle.std.specs.Prelude.{◌≡◌, true, ◌&&◌, ◌≤◌, ◌<◌, ltb};
+ghost use Rattle.std.specs.Prelude.{◌≡◌, true, ◌≤◌, ◌<◌};
 ghost use Rattle.board.specs.Handed.{passes};
 ghost use Rattle.records.specs.Records.{records};
 ghost use Rattle.tracks.specs.Tracks.{is_point, place_of};
 ghost use Rattle.tracks.specs.Faults.{file_rows};
-ghost use Rattle.bureau.specs.Inner.{first_record, LastOf, Run};
+ghost use Rattle.bureau.specs.Inner.{place_before, first_record, LastOf, Run, PointsGiven};
 
-use places::inner::place_of;
+use bureau::Points;
+use places::inner::{is_point, place_of};
 use records::RECORD;
 use records::inner::byte_of;
-use tracks::POINT;
 
-// The first record of the file with this net number, or the number of records.
-pub fn first_record(file: &[u8], number: usize) -> usize
-    ensures { result ≡ first_record file.now number }
+// The first record of the file with this net number, if there is one.
+pub fn first_record(file: &[u8], number: usize) -> Option<usize>
+    ensures { result ≡ place_before (first_record file.now number) (records file.now) }
 {
-    let count = file.len() / RECORD;
-    for i in 0..count {
-        if byte_of(file, i, 1) == number {
-            return i;
-        }
-    }
-    count
-}
-
-// Whether record i is there, and a point.
-pub fn has_point(file: &[u8], i: usize) -> bool
-    ensures { result ≡ (ltb i (records file.now) && is_point file.now i) }
-{
-    if i < file.len() / RECORD {
-        return byte_of(file, i, 0) == POINT;
-    }
-    false
+    (0..file.len() / RECORD).find(|i| byte_of(file, *i, 1) == number)
 }
 
 // The last record of the net whose first record this is.
@@ -41,14 +25,9 @@ fn last_record(file: &[u8], first: usize) -> usize
     ensures { LastOf file.now first result }
 {
     let number = byte_of(file, first, 1);
-    let mut last = first;
-    while last + 1 < file.len() / RECORD {
-        if byte_of(file, last + 1, 1) != number {
-            return last;
-        }
-        last += 1;
-    }
-    last
+    let count = file.len() / RECORD;
+    let next = (first..count).find(|i| byte_of(file, *i, 1) != number);
+    next.unwrap_or(count) - 1
 }
 
 // How many points the net has whose first record this is: the last one's place tells.
@@ -59,4 +38,17 @@ pub fn count_points(file: &[u8], first: usize) -> usize
 {
     let last = last_record(file, first);
     place_of(file, last) + 1
+}
+
+// Where the points of the net with this number stand, if the file gives it any.
+pub fn find_points(file: &[u8], number: usize) -> Option<Points>
+    requires { file_rows file.now ≡ passes }
+    ensures { PointsGiven file.now number result }
+{
+    let first = first_record(file, number)?;
+    if !is_point(file, first) {
+        return None;
+    }
+    let count = count_points(file, first);
+    Some(Points { first, count })
 }

@@ -1,18 +1,16 @@
 // Calls for the crates above, which have checked their board: each says what it requires.
-ghost use Rattle.std.specs.Prelude.{◌≤◌, length};
-ghost use Rattle.board.specs.Board.{board, vertices};
-ghost use Rattle.board.specs.Inner.{Sound, OnBoard};
 ghost use Rattle.table.specs.Lengths.{Known};
 ghost use Rattle.theta.specs.Lent.{state, Searched};
-ghost use Rattle.problem.specs.Problem.{problem};
-ghost use Rattle.offers.specs.Request.{asked, size_of, diagonal, Asked};
+ghost use Rattle.search.specs.Asked.{problem_of, diagonal, Room};
 
 use board::inner::number_of;
 use board::{LINE, SIDE, Vertex};
 use clearing::inner::begin;
 use entries::{large_lengths, middle_lengths};
+use guard::guarded::GuardedBoard;
 use guard::inner::guard_cells;
-use offers::Request;
+use legs::leg::Leg;
+use offers::request::Request;
 use open::list::{GROUP, open_vertex};
 use small::small_lengths;
 use table::{MIDDLE_SIDE, SMALL_SIDE};
@@ -29,26 +27,37 @@ const GUARDED: usize = (SIDE + 2) * (SIDE + 2);
 // The search, by a table that has the lengths of its board. The nodes and the guarded copy of the cells are made here and not
 // lent, so that each is read and written without a pointer to it.
 fn find_by(
-    cells: &[u8],
-    request: Request,
+    asked: &Leg<'_>,
     g: &mut [u64],
     parents: &mut [Vertex],
     marks: &mut [u8],
     legs: &mut [Vertex],
     table: &[u32],
 ) -> Outcome
-    requires asked { Asked cells.now request }
-    requires request_in_bounds { (size_of request ≤ length g.old) × (size_of request ≤ length parents.old) × (size_of request ≤ length marks.old) × (size_of request ≤ length legs.old) }
-    requires known { Known (diagonal request) table.now }
-    ensures { Searched (asked cells.now request) (state g.old parents.old marks.old legs.old 0 0) (state g.new parents.new marks.new legs.new result.expansions result.tests) result.found }
+    requires room { Room asked.now g.old parents.old marks.old legs.old }
+    requires known { Known (diagonal asked.now) table.now }
+    ensures { Searched (problem_of asked.now) (state g.old parents.old marks.old legs.old 0 0) (state g.new parents.new marks.new legs.new result.expansions result.tests) result.found }
 {
+    let board = asked.board;
     let mut guard = [1 as u8; GUARDED];
-    guard_cells(cells, request.width, request.height, &mut guard);
+    guard_cells(&board, &mut guard);
+    let guarded = GuardedBoard {
+        board,
+        copy: &guard,
+    };
+    let request = Request {
+        guarded,
+        sx: asked.ax,
+        sy: asked.ay,
+        gx: asked.bx,
+        gy: asked.by,
+        table,
+    };
     let mut leads = [0 as Vertex; NODES];
     let mut keys = [NO_KEY; NODES];
-    let start = number_of(request.width, request.sx, request.sy);
+    let start = number_of(board.width, request.sx, request.sy);
     begin(
-        (request.width + 1) * (request.height + 1),
+        (board.width + 1) * (board.height + 1),
         start,
         g,
         parents,
@@ -56,8 +65,8 @@ fn find_by(
         legs,
     );
     open_vertex(
-        request.width,
-        request.height,
+        board.width,
+        board.height,
         request.sx,
         request.sy,
         request.gx,
@@ -72,47 +81,31 @@ fn find_by(
         &mut keys,
         table,
     );
-    run(
-        cells, &guard, request, g, parents, marks, legs, &mut leads, &mut keys, table,
-    )
+    run(&request, g, parents, marks, legs, &mut leads, &mut keys)
 }
 
-// The search from (sx, sy) to (gx, gy). It leaves in the lent slices what the definition has for each vertex. The table that is made
-// for it is no longer than its board asks for.
+// The search from the first end of what is asked to the second. It leaves in the lent slices what the definition has for each vertex.
+// The table that is made for it is no longer than its board asks for.
 pub fn find(
-    cells: &[u8],
-    width: usize,
-    height: usize,
-    sx: usize,
-    sy: usize,
-    gx: usize,
-    gy: usize,
+    asked: &Leg<'_>,
     g: &mut [u64],
     parents: &mut [Vertex],
     marks: &mut [u8],
     legs: &mut [Vertex],
 ) -> Outcome
-    requires sound { Sound (board cells.now width height) }
-    requires on_board { OnBoard (board cells.now width height) sx sy × OnBoard (board cells.now width height) gx gy }
-    requires height_in_bounds { (vertices (board cells.now width height) ≤ length g.old) × (vertices (board cells.now width height) ≤ length parents.old) × (vertices (board cells.now width height) ≤ length marks.old) × (vertices (board cells.now width height) ≤ length legs.old) }
-    ensures { Searched (problem (board cells.now width height) sx sy gx gy) (state g.old parents.old marks.old legs.old 0 0) (state g.new parents.new marks.new legs.new result.expansions result.tests) result.found }
+    requires { Room asked.now g.old parents.old marks.old legs.old }
+    ensures { Searched (problem_of asked.now) (state g.old parents.old marks.old legs.old 0 0) (state g.new parents.new marks.new legs.new result.expansions result.tests) result.found }
 {
-    let request = Request {
-        width,
-        height,
-        sx,
-        sy,
-        gx,
-        gy,
-    };
+    let width = asked.board.width;
+    let height = asked.board.height;
     if (width <= SMALL_SIDE) & (height <= SMALL_SIDE) {
         let table = small_lengths();
-        return find_by(cells, request, g, parents, marks, legs, &table);
+        return find_by(asked, g, parents, marks, legs, &table);
     }
     if (width <= MIDDLE_SIDE) & (height <= MIDDLE_SIDE) {
         let table = middle_lengths();
-        return find_by(cells, request, g, parents, marks, legs, &table);
+        return find_by(asked, g, parents, marks, legs, &table);
     }
     let table = large_lengths();
-    find_by(cells, request, g, parents, marks, legs, &table)
+    find_by(asked, g, parents, marks, legs, &table)
 }

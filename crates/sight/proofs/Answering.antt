@@ -3,12 +3,13 @@ use mathlib.Core.Path.{◌≡◌, sym, ap, ◌∙◌}
 use Prim.Native.Nat.{ℕ}
 use Rattle.board.specs.Board.{Board}
 use Rattle.board.specs.declared.Refusal.{Refusal}
-use Rattle.board.specs.declared.Checked.{Checked}
-use Rattle.board.specs.declared.Checked.TheVariants.{Accepted, Refused}
-use Rattle.board.specs.Handed.{Handed, Verdict, passes, answer, unless, judged, leg_rows, refusal_row, verdict}
-use Rattle.board.proofs.Verdicts.{accepted, refused_row, refusal_handed}
+use Rattle.board.specs.Handed.{Handed, Verdict, passes, answer, unless, judged, leg_rows, refusal_row}
+use Rattle.board.proofs.Verdicts.{refusal_handed}
 use Rattle.legs.specs.declared.Stop.{Stop}
 use Rattle.legs.specs.Stops.{first_stop}
+use Rattle.legs.specs.declared.leg.Leg.{Leg}
+use Rattle.legs.specs.Checked.{Between}
+use Rattle.board.specs.Checked.{board_of}
 use Rattle.sight.specs.Answers.{Seen, unseen, values_of, sight_row}
 
 module _ (b : Board) (ax ay bx by : ℕ) where
@@ -23,9 +24,7 @@ module _ (b : Board) (ax ay bx by : ℕ) where
   unfolding sight_row
   stopped_as e g = ap (λ (s : Stop). answer (values_of s)) g ∙ sym (ap (λ (v : Verdict). unless unseen v rest) e)
 
-  module _ (checked : Checked) (e : verdict checked ≡ leg_rows b ax ay bx by) where
-    pub refusal_row_lem : (why : Refusal) → checked ≡ Refused why → judged unseen (refusal_row why) ≡ sight_row b ax ay bx by
-    refusal_row_lem why f = refused_as why (refused_row f e)
-
-    pub rows_pass : checked ≡ Accepted → leg_rows b ax ay bx by ≡ passes
-    rows_pass f = accepted f e
+  -- of the leg that passed the checks
+  pub stopped_on : leg_rows b ax ay bx by ≡ passes → {leg : Leg} {s : Stop} → Between b ax ay bx by leg
+      → s ≡ first_stop (board_of leg.board) leg.ax leg.ay leg.bx leg.by → answer (values_of s) ≡ sight_row b ax ay bx by
+  stopped_on e i g = stopped_as e (rw (← i.board_is, ← i.ax_is, ← i.ay_is, ← i.bx_is, ← i.by_is) g)

@@ -1,9 +1,8 @@
 -- What the sight call hands back, in document 01's numbers.
-use Rattle.std.specs.Prelude.{ℕ}
+use Rattle.std.specs.Prelude.{ℕ, Result}
 use Rattle.board.specs.Board.{Board}
-use Rattle.board.specs.Handed.{Handed, answer, unless, judged, leg_rows, refusal_row}
-use Rattle.sight.specs.declared.Answer.{Answer}
-use Rattle.sight.specs.declared.Answer.TheVariants.{Clear, Cell, Edge, Vertex, Refused}
+use Rattle.board.specs.declared.Refusal.{Refusal}
+use Rattle.board.specs.Handed.{Handed, answer, unless, handed, leg_rows, refusal_row}
 use Rattle.legs.specs.declared.Stop.{Stop}
 use Rattle.legs.specs.declared.Stop.TheVariants as stop
 use Rattle.legs.specs.Stops.{first_stop}
@@ -30,12 +29,9 @@ values_of (stop.Cell x y) = seen_as 0 1 x y 0 0
 values_of (stop.Edge x y x2 y2) = seen_as 0 2 x y x2 y2
 values_of (stop.Vertex x y) = seen_as 0 3 x y 0 0
 
-abbrev pub handed_sight : Answer → Handed Seen
-handed_sight Clear = answer (values_of stop.Clear)
-handed_sight (Cell x y) = answer (values_of (stop.Cell x y))
-handed_sight (Edge x y x2 y2) = answer (values_of (stop.Edge x y x2 y2))
-handed_sight (Vertex x y) = answer (values_of (stop.Vertex x y))
-handed_sight (Refused why) = judged unseen (refusal_row why)
+-- the code's answers
+abbrev pub handed_sight : Result Stop Refusal → Handed Seen
+handed_sight = handed unseen values_of refusal_row
 
 -- the whole answer to a sight request
 unfoldable pub sight_row : Board → (ax ay bx by : ℕ) → Handed Seen

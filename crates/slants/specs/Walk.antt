@@ -1,19 +1,27 @@
 -- What the walk over a leg's cells hands to its caller, and its steps. No public contract cites it, so nobody need believe this.
-use Rattle.std.specs.Prelude.{ℕ, ◌+◌, ◌-◌, ◌/◌, ◌%◌, ◌≡◌, Bool, not, ◌&&◌, cond, List, ltb, eqb, get_or}
+use Rattle.std.specs.Prelude.{ℕ, ◌+◌, ◌/◌, ◌%◌, ◌<◌, ◌≡◌, ⊤, Bool, not, ◌&&◌, List, eqb, get_or}
 use Rattle.legs.specs.declared.Stop.{Stop}
 use Rattle.legs.specs.declared.Stop.TheVariants.{Clear, Cell, Vertex}
 use Rattle.walls.specs.Leg.{forward}
+use Rattle.slants.specs.declared.Across.{Across}
+use Rattle.slants.specs.declared.Across.TheVariants.{Nothing, Blocked, Pinch}
 use Rattle.slants.specs.declared.inner.Steps.{Steps}
 
 -- the corner of the cell with this index that lies nearer to the first end of the leg from (ax, ay) to (bx, by)
 unfoldable pub corner_of : (width ax ay bx by index : ℕ) → Stop
 corner_of width ax ay bx by index = Vertex (index % width + forward bx ax 1) (index / width + forward by ay 1)
 
--- the stop by its number, of so many cells: below them the cell with that index; their number none; behind it a corner
-unfoldable pub stop_at : (count width ax ay bx by number : ℕ) → Stop
-stop_at count width ax ay bx by number =
-    cond (ltb number count) (Cell (number % width) (number / width))
-    (cond (eqb number count) Clear (corner_of width ax ay bx by (number - (count + 1))))
+-- an index that is met is below n
+abbrev pub Below : (n : ℕ) → Across → Type 0
+Below n Nothing = ⊤
+Below n (Blocked index) = index < n
+Below n (Pinch index) = index < n
+
+-- the stop that is met: none; the cell with that index; the nearer corner of the cell with that index
+unfoldable pub stop_at : (width ax ay bx by : ℕ) → Across → Stop
+stop_at width ax ay bx by Nothing = Clear
+stop_at width ax ay bx by (Blocked index) = Cell (index % width) (index / width)
+stop_at width ax ay bx by (Pinch index) = corner_of width ax ay bx by index
 
 -- the cells with these indices are blocked, blocked and free
 unfoldable pub pinch : List ℕ → (beside below next : ℕ) → Bool

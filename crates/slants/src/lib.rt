@@ -2,3 +2,11 @@
 #![tactic(auto)]
 
 pub mod inner;
+
+// What the walk meets first: nothing, a blocked cell, by its index, or a pinched corner, by the index of the cell behind it.
+#[derive(Clone, Copy)]
+pub enum Across {
+    Nothing,
+    Blocked(usize),
+    Pinch(usize),
+}

@@ -1,20 +1,19 @@
 -- A leg that a call was given: the difference of two coordinates, and what the rows 4 and 5 leave. Assumes nothing.
-use mathlib.Core.Path.{◌≡◌, refl, ap₂, ◌∙◌}
+use mathlib.Core.Path.{◌≡◌, refl}
 use mathlib.Core.Bool.{Bool, true, false, ◌||◌}
 use Prim.Native.Nat.{ℕ, suc, ◌+◌, ◌-◌, ◌≤◌}
 use native.Mathlib.Omega.{arith}
 use lib.IntN.{ℤ, pos, negsuc, nat_abs}
 use lib.Dec.{ltb}
 use mir.Syntax.{w32}
-use mir.Val.{SFits, to_z, of_z}
+use mir.Val.{SFits}
 use borrow.Author.Tests.{ltb-false}
 use Rattle.laws.proofs.Differences.{diff_pos, diff_size}
 use Rattle.laws.proofs.Tests.{or_neither}
 use Rattle.board.specs.Limits.{largest_side}
 use Rattle.board.proofs.Verdicts.{row_passes, both_pass}
-use Rattle.board.specs.Handed.{passes, row, and_then, number_in}
+use Rattle.board.specs.Handed.{passes, row, and_then, Handed, unless}
 use Rattle.spans.specs.Legs.{step, difference_rows, vertex_rows}
-use Rattle.spans.proofs.Signed.{narrow, narrowed}
 
 -- ---- from one coordinate to another
 
@@ -29,18 +28,11 @@ pub record OnLargest (x y : ℕ) : Type 0 where
   pub x_on : x ≤ largest_side
   pub y_on : y ≤ largest_side
 
--- ---- small differences as a call is handed them
+-- ---- small differences fit
 
 pub small_fits : (d : ℤ) → nat_abs d ≤ largest_side → SFits w32 d
 small_fits (pos k) h = record { sfits = omega arith }
 small_fits (negsuc k) h = record { sfits = omega arith }
-
-pub small_as : (d : ℤ) → nat_abs d ≤ largest_side → nat_abs (to_z w32 (of_z w32 d)) ≤ largest_side
-small_as d h = rw (narrow d (small_fits d h)) h
-
-pub small_both : {A : Type 0} (g : ℤ → ℤ → A) {x y : ℤ} (dx dy : ℤ) → x ≡ dx → y ≡ dy → nat_abs x ≤ largest_side → nat_abs y ≤ largest_side
-    → g (to_z w32 (of_z w32 x)) (to_z w32 (of_z w32 y)) ≡ g dx dy
-small_both g {x} {y} dx dy e f p q = narrowed g x y (small_fits x p) (small_fits y q) ∙ ap₂ g e f
 
 -- ---- the rows 4 and 5
 
@@ -48,20 +40,21 @@ small_both g {x} {y} dx dy e f p q = narrowed g x y (small_fits x p) (small_fits
 pub no_zero : (k : ℕ) → suc k ≡ 0 → ⊥
 no_zero k e = omega arith
 
--- two rows that hand 0 back pass
-passing : (p q : Bool) → number_in (and_then (row p 4 0) (row q 5 0)) ≡ 0 → and_then (row p 4 0) (row q 5 0) ≡ passes
-passing true q e = absurd (no_zero 3 e)
-passing false true e = absurd (no_zero 4 e)
-passing false false e = refl
+-- two rows pass where 0 is handed back
+passing : {Values : Type 0} (none : Values) (rest : Handed Values) (p q : Bool) → (unless none (and_then (row p 4 0) (row q 5 0)) rest).number ≡ 0
+    → and_then (row p 4 0) (row q 5 0) ≡ passes
+passing none rest true q e = absurd (no_zero 3 e)
+passing none rest false true e = absurd (no_zero 4 e)
+passing none rest false false e = refl
 
 -- of two rows that pass neither condition holds
 neither : (p q : Bool) → and_then (row p 4 0) (row q 5 0) ≡ passes → (p ≡ false) × (q ≡ false)
 neither p q e = let t = both_pass (row p 4 0) (row q 5 0) e in (row_passes p 4 0 t.0, row_passes q 5 0 t.1)
 
 module _ (dx dy : ℤ) where
-  pub differences_given : number_in (difference_rows dx dy) ≡ 0 → difference_rows dx dy ≡ passes
+  pub differences_given : {Values : Type 0} (none : Values) (rest : Handed Values) → (unless none (difference_rows dx dy) rest).number ≡ 0 → difference_rows dx dy ≡ passes
   unfolding difference_rows
-  differences_given e = passing (ltb largest_side (nat_abs dx)) (ltb largest_side (nat_abs dy)) e
+  differences_given none rest e = passing none rest (ltb largest_side (nat_abs dx)) (ltb largest_side (nat_abs dy)) e
 
   -- differences that pass are small
   pub differences_small : difference_rows dx dy ≡ passes → (nat_abs dx ≤ largest_side) × (nat_abs dy ≤ largest_side)
@@ -71,9 +64,10 @@ module _ (dx dy : ℤ) where
       (ltb-false largest_side (nat_abs dx) n.0, ltb-false largest_side (nat_abs dy) n.1)
 
 module _ (ax ay bx by : ℕ) where
-  pub vertices_given : number_in (vertex_rows ax ay bx by) ≡ 0 → vertex_rows ax ay bx by ≡ passes
+  pub vertices_given : {Values : Type 0} (none : Values) (rest : Handed Values) → (unless none (vertex_rows ax ay bx by) rest).number ≡ 0
+      → vertex_rows ax ay bx by ≡ passes
   unfolding vertex_rows
-  vertices_given e = passing (ltb largest_side ax || ltb largest_side ay) (ltb largest_side bx || ltb largest_side by) e
+  vertices_given none rest e = passing none rest (ltb largest_side ax || ltb largest_side ay) (ltb largest_side bx || ltb largest_side by) e
 
 on_largest : (x y : ℕ) → (ltb largest_side x || ltb largest_side y) ≡ false → OnLargest x y
 on_largest x y e =

@@ -1,25 +1,16 @@
 -- What the steps of a job's check say to each other. No public contract cites it, so nobody need believe this.
-use Rattle.std.specs.Prelude.{ℕ, ◌+◌, not, ◌&&◌, leb, ltb, eqb}
-use Rattle.board.specs.Handed.{row, and_then, Handed, answer, unless, judged, side_fits}
+use Rattle.std.specs.Prelude.{ℕ, ◌+◌, not, ◌&&◌, leb, ltb, eqb, Result}
+use Rattle.board.specs.Handed.{row, and_then, Handed, answer, unless, handed, side_fits}
 use Rattle.refusals.specs.declared.JobRefusal.{JobRefusal}
-use Rattle.refusals.specs.declared.JobRefusal.TheVariants.{Long}
 use Rattle.refusals.specs.Refusals.{refusal_row}
 use Rattle.steps.specs.declared.Progress.{Progress}
-use Rattle.steps.specs.declared.Step.{Step}
-use Rattle.steps.specs.declared.Step.TheVariants.{Next, Refused}
 
 -- a step hands back a refusal, or what was read up to there
 abbrev pub nothing : Progress
 nothing = record { width = 0; height = 0; last = 0; nets = 0 }
 
-abbrev pub handed_step : Step → Handed Progress
-handed_step (Next p) = answer p
-handed_step (Refused why) = judged nothing (refusal_row why)
-
--- why a step stopped; what went on has no refusal, so any stands there
-abbrev pub why_of : Step → JobRefusal
-why_of (Next p) = Long
-why_of (Refused why) = why
+abbrev pub handed_step : Result Progress JobRefusal → Handed Progress
+handed_step r = handed nothing (λ (p : Progress). p) refusal_row r
 
 -- a record of each type is judged, by what was read before it and by its numbers
 unfoldable pub board_step : (i w h : ℕ) → Handed Progress

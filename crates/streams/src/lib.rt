@@ -2,7 +2,7 @@
 // said on standard error.
 #![tactic(auto)]
 
-ghost use Rattle.std.specs.Prelude.{◌≡◌, true, length, ◌+◌, ◌≤◌, ◌<◌, IfOk};
+ghost use Rattle.std.specs.Prelude.{◌≡◌, true, length, ◌+◌, ◌≤◌, ◌<◌, IfOk, MatchResult};
 ghost use Rattle.streams.specs.Tries.{most_tries};
 
 use std::io;
@@ -26,10 +26,7 @@ fn is_put_off(error: &io::Error, tries: usize) -> bool
     ensures { result ≡ true → tries < most_tries }
 {
     let kind = error.kind();
-    if tries < TRIES {
-        return (kind == ErrorKind::Interrupted) | (kind == ErrorKind::WouldBlock);
-    }
-    false
+    tries < TRIES && (kind == ErrorKind::Interrupted || kind == ErrorKind::WouldBlock)
 }
 
 // Says on standard error why a stream failed, in the system's words: std puts the error's number behind them, which is left out. Where
@@ -46,45 +43,47 @@ fn tell<R: Eprint + AllocGlobal>(rt: &R, stream: &str, error: &io::Error) {
     let _ = eprintln!(rt; "route: {stream}: {said}");
 }
 
-// One write of the bytes from a place on: how many the system took, or why it took none.
-fn write_some<R: Print>(rt: &R, bytes: &[u8], done: usize) -> io::Result<usize>
-    requires { done ≤ length bytes.now }
+// The output has failed, and standard error was told why.
+#[derive(Clone, Copy)]
+pub struct Lost;
+
+// One write of the bytes: how many the system took, or why it took none.
+fn write_some<R: Print>(rt: &R, bytes: &[u8]) -> io::Result<usize>
     ensures taken { IfOk result (λ n. 0 < n) }
-    ensures within { IfOk result (λ n. done + n ≤ length bytes.now) }
+    ensures within { IfOk result (λ n. n ≤ length bytes.now) }
 {
-    match rt.write_some(&bytes[done..])? {
+    match rt.write_some(bytes)? {
         0 => Err(io::Error::from(ErrorKind::WriteZero)),
         n => Ok(n),
     }
 }
 
 // Writes all the bytes, or says on standard error why not.
-pub fn write_whole<R: Print + Eprint + AllocGlobal>(rt: &R, bytes: &[u8]) -> bool {
-    let mut done = 0;
+pub fn write_whole<R: Print + Eprint + AllocGlobal>(rt: &R, bytes: &[u8]) -> Result<(), Lost> {
+    let mut rest = bytes;
     let mut tries = 0;
-    while done < bytes.len() {
-        match write_some(rt, bytes, done) {
+    while !rest.is_empty() {
+        match write_some(rt, rest) {
             Ok(n) => {
-                done += n;
+                rest = &rest[n..];
                 tries = 0;
             }
             Err(error) => {
                 if !is_put_off(&error, tries) {
                     tell(rt, "standard output", &error);
-                    return false;
+                    return Err(Lost);
                 }
                 tries += 1;
             }
         }
     }
-    true
+    Ok(())
 }
 
-// How many bytes were read, and whether the input has ended.
+// The input has failed after so many bytes, and standard error was told why.
 #[derive(Clone, Copy)]
-pub struct Input {
+pub struct Broken {
     pub bytes: usize,
-    pub ended: bool,
 }
 
 // One read into the job from a place on: how many bytes came, 0 at the end, or why none came.
@@ -95,9 +94,12 @@ fn read_some<S: Read>(source: &mut S, job: &mut [u8], done: usize) -> io::Result
     source.read(&mut job[done..])
 }
 
-// Reads to the end of the input, or until the job is full, or says on standard error why not. A closed input has ended.
-pub fn read_job<R: io::Input + Eprint + AllocGlobal>(rt: &R, job: &mut [u8]) -> Input
-    ensures { result.bytes ≤ length job.new }
+// Reads to the end of the input, or until the job is full: how many bytes it has. A closed input has ended.
+pub fn read_job<R: io::Input + Eprint + AllocGlobal>(
+    rt: &R,
+    job: &mut [u8],
+) -> Result<usize, Broken>
+    ensures { MatchResult result (λ n. n ≤ length job.new) (λ why. why.bytes ≤ length job.new) }
 {
     let mut source = rt.reader();
     let mut done = 0;
@@ -115,17 +117,11 @@ pub fn read_job<R: io::Input + Eprint + AllocGlobal>(rt: &R, job: &mut [u8]) -> 
                 }
                 if !is_put_off(&error, tries) {
                     tell(rt, "standard input", &error);
-                    return Input {
-                        bytes: done,
-                        ended: false,
-                    };
+                    return Err(Broken { bytes: done });
                 }
                 tries += 1;
             }
         }
     }
-    Input {
-        bytes: done,
-        ended: true,
-    }
+    Ok(done)
 }

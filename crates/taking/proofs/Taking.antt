@@ -9,9 +9,9 @@ use Rattle.board.specs.Inner.{OnBoard}
 use Rattle.board.proofs.Numbers.{number_back, column_on, row_on}
 use Rattle.open.specs.Marked.{Sited}
 use Rattle.reach.specs.Turns.{at}
-use Rattle.offers.specs.declared.Request.{Request}
+use Rattle.offers.specs.declared.request.Request.{Request}
 use Rattle.offers.specs.declared.Spot.{Spot}
-use Rattle.offers.specs.Request.{board_of, size_of, Asked, Placed}
+use Rattle.offers.specs.Request.{board_of, size_of, Placed}
 use Rattle.offers.specs.Offers.{Taken}
 use Rattle.theta.specs.Search.{Problem, State}
 use Rattle.theta.specs.Lent.{state, marked, Rounded}
@@ -19,47 +19,46 @@ use Rattle.problem.specs.Problem.{problem}
 use Rattle.taking.specs.Taking.{Taking}
 
 -- a vertex and the goal
-pub sited : {cells : List ℕ} {q : Request} → Asked cells q → {x y : ℕ} → OnBoard (board_of cells q) x y → Sited q.width q.height x y q.gx q.gy
-sited A P = record {
-  narrow = A.sound.narrow;
-  low = A.sound.low;
+pub sited : (q : Request) {x y : ℕ} → OnBoard (board_of q) x y → Sited q.guarded.board.width q.guarded.board.height x y q.gx q.gy
+sited q P = record {
+  narrow = q.guarded.board.sound.narrow;
+  low = q.guarded.board.sound.low;
   column = P.x_on;
   row = P.y_on;
-  goal_x = A.goal.x_on;
-  goal_y = A.goal.y_on;
+  goal_x = q.goal.x_on;
+  goal_y = q.goal.y_on;
 }
 
 -- a vertex number's place
-placed_number : (cells : List ℕ) (q : Request) (s : Spot) (v : ℕ) → v < size_of q
-    → (s.x ≡ column_of q.width v) × (s.y ≡ row_of q.width v) × (s.number ≡ v) → Placed (board_of cells q) s
-placed_number cells q s v l e = record {
-  on = record { x_on = omega (arith, e.0, column_on q.width v); y_on = omega (arith, e.1, row_on q.width q.height v l) };
-  numbered = e.2 ∙ sym (rw (e.0, e.1) (number_back q.width v));
+placed_number : (q : Request) (s : Spot) (v : ℕ) → v < size_of q
+    → (s.x ≡ column_of q.guarded.board.width v) × (s.y ≡ row_of q.guarded.board.width v) × (s.number ≡ v) → Placed (board_of q) s
+placed_number q s v l e = record {
+  on = record { x_on = omega (arith, e.0, column_on q.guarded.board.width v); y_on = omega (arith, e.1, row_on q.guarded.board.width q.guarded.board.height v l) };
+  numbered = e.2 ∙ sym (rw (e.0, e.1) (number_back q.guarded.board.width v));
 }
 
-pub taking_on : {cells : List ℕ} {q : Request} {v : ℕ} {s : State} → Taking cells q v s
+pub taking_on : {q : Request} {v : ℕ} {s : State} → Taking q v s
     → (v < size_of q) × (at s.parent v < size_of q) × (size_of q ≤ length s.parent) × (v < length s.mark)
 unfolding problem
 taking_on T = (T.ready.on, T.ready.on_parent, T.ready.room_p, omega (arith, T.ready.on, rw length-set at T.ready.room_m))
 
-module _ {cells : List ℕ} {q : Request} (A : Asked cells q) {v : ℕ} {s : State} (T : Taking cells q v s) {u : Spot}
-    (U : (u.x ≡ column_of q.width v) × (u.y ≡ row_of q.width v) × (u.number ≡ v)) where
-  placed : Placed (board_of cells q) u
-  placed = placed_number cells q u v (taking_on T).0 U
+module _ {q : Request} {v : ℕ} {s : State} (T : Taking q v s) {u : Spot}
+    (U : (u.x ≡ column_of q.guarded.board.width v) × (u.y ≡ row_of q.guarded.board.width v) × (u.number ≡ v)) where
+  placed : Placed (board_of q) u
+  placed = placed_number q u v (taking_on T).0 U
 
-  pub taking_sited : Sited q.width q.height u.x u.y q.gx q.gy
-  taking_sited = sited A placed.on
+  pub taking_sited : Sited q.guarded.board.width q.guarded.board.height u.x u.y q.gx q.gy
+  taking_sited = sited q placed.on
 
-  pub taking_number : v ≡ number_of q.width u.x u.y
+  pub taking_number : v ≡ number_of q.guarded.board.width u.x u.y
   taking_number = sym U.2 ∙ placed.numbered
 
   pub taking_taken : {from : Spot}
-      → (from.x ≡ column_of q.width (at s.parent v)) × (from.y ≡ row_of q.width (at s.parent v)) × (from.number ≡ at s.parent v)
-      → Taken cells q u from (marked v s)
+      → (from.x ≡ column_of q.guarded.board.width (at s.parent v)) × (from.y ≡ row_of q.guarded.board.width (at s.parent v)) × (from.number ≡ at s.parent v)
+      → Taken q u from (marked v s)
   taking_taken {from} E = record {
-    asked_for = A;
     placed = placed;
-    placed_parent = placed_number cells q from (at s.parent v) (taking_on T).1 E;
+    placed_parent = placed_number q from (at s.parent v) (taking_on T).1 E;
     parent_is = rw U.2 (sym E.2);
     ready = rw U.2 T.ready;
   }

@@ -2,16 +2,15 @@
 ghost use Rattle.std.specs.Prelude.{◌≡◌, ◌^◌, ◌≤◌, ◌<◌};
 ghost use Rattle.board.specs.Limits.{largest_side};
 ghost use Rattle.board.specs.Board.{column_of, row_of};
-ghost use Rattle.guard.specs.Guard.{Guarded};
-ghost use Rattle.table.specs.Lengths.{Known};
-ghost use Rattle.offers.specs.Request.{board_of, asked, size_of, diagonal, Asked};
+ghost use Rattle.offers.specs.Request.{asked, size_of};
 ghost use Rattle.theta.specs.Lent.{state, marked, Rounded};
 ghost use Rattle.taking.specs.Taking.{Taking};
 ghost use Rattle.offers.specs.Offers.{ListedFor};
 
 use board::Vertex;
 use board::inner::{column_of, row_of};
-use offers::{Request, Spot};
+use offers::Spot;
+use offers::request::Request;
 use open::list::close_vertex;
 use round::inner::round;
 
@@ -30,9 +29,7 @@ fn spot_of(width: usize, v: Vertex) -> Spot
 // The vertex v is expanded: it leaves the open list, and its neighbours are looked at.
 // The sight tests so far go in and come out.
 pub fn expand(
-    cells: &[u8],
-    guard: &[u8],
-    request: Request,
+    request: &Request<'_, '_>,
     v: usize,
     tests: u64,
     g: &mut [u64],
@@ -41,22 +38,19 @@ pub fn expand(
     legs: &mut [Vertex],
     leads: &mut [Vertex],
     keys: &mut [u64],
-    table: &[u32],
 ) -> u64
-    requires asked { Asked cells.now request }
-    requires taking { Taking cells.now request v (state g.old parents.old marks.old legs.old 0 tests) }
+    requires taking { Taking request.now v (state g.old parents.old marks.old legs.old 0 tests) }
     requires tests_bound { tests < 2 ^ 62 }
-    requires listed_for { ListedFor request g.old marks.old legs.old leads.old keys.old }
-    requires known { Known (diagonal request) table.now }
-    requires guarded { Guarded (board_of cells.now request) guard.now }
-    ensures rounded { Rounded (asked cells.now request) v (size_of request) (marked v (state g.old parents.old marks.old legs.old 0 tests)) (state g.new parents.new marks.new legs.new 0 result) }
-    ensures listed_for_2 { ListedFor request g.new marks.new legs.new leads.new keys.new }
+    requires listed_for { ListedFor request.now g.old marks.old legs.old leads.old keys.old }
+    ensures rounded { Rounded (asked request.now) v (size_of request.now) (marked v (state g.old parents.old marks.old legs.old 0 tests)) (state g.new parents.new marks.new legs.new 0 result) }
+    ensures listed_for_2 { ListedFor request.now g.new marks.new legs.new leads.new keys.new }
 {
-    let u = spot_of(request.width, v as Vertex);
-    let parent = spot_of(request.width, parents[v]);
+    let board = request.guarded.board;
+    let u = spot_of(board.width, v as Vertex);
+    let parent = spot_of(board.width, parents[v]);
     close_vertex(
-        request.width,
-        request.height,
+        board.width,
+        board.height,
         u.x,
         u.y,
         request.gx,
@@ -67,9 +61,9 @@ pub fn expand(
         legs,
         leads,
         keys,
-        table,
+        request.table,
     );
     round(
-        cells, guard, request, u, parent, tests, g, parents, marks, legs, leads, keys, table,
+        request, u, parent, tests, g, parents, marks, legs, leads, keys,
     )
 }

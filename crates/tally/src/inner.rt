@@ -4,8 +4,8 @@ ghost use Rattle.tracks.specs.Layout.{slices};
 ghost use Rattle.tracks.specs.Inner.{records_for};
 ghost use Rattle.tally.specs.Inner.{MeasuredAs};
 
-use crate::Measured;
-use tracks::PLACES;
+use crate::Size;
+use tracks::{PLACES, WriteRefusal};
 
 // How many records a net with so many points has.
 pub fn records_for(count: usize) -> usize
@@ -18,34 +18,27 @@ pub fn records_for(count: usize) -> usize
 fn count_of(counts: &[usize], k: usize) -> usize
     ensures { result ≡ get_or counts.now k 0 }
 {
-    if k < counts.len() {
-        return counts[k];
-    }
-    0
+    counts.get(k).copied().unwrap_or(0)
 }
 
 // How many records and points there are, or the first record that is wrong, whatever the points' x and y are.
-pub fn measure(nets: &[u8], counts: &[usize]) -> Measured
+pub fn measure(nets: &[u8], counts: &[usize]) -> Result<Size, WriteRefusal>
     ensures { (xs ys : List ℕ) → MeasuredAs (slices nets.now counts.now xs ys) result }
 {
-    let mut at = 0;
+    let mut records = 0;
     let mut points = 0;
     let mut last = 0;
-    for k in 0..nets.len() {
-        let net = nets[k] as usize;
+    for (k, net) in nets.iter().enumerate() {
         let count = count_of(counts, k);
-        if net <= last {
-            return Measured::Wrong(at);
+        if *net <= last {
+            return Err(WriteRefusal::Order(records));
         }
         if PLACES < count {
-            return Measured::Wrong(at + PLACES);
+            return Err(WriteRefusal::Order(records + PLACES));
         }
-        at += records_for(count);
+        records += records_for(count);
         points += count;
-        last = net;
+        last = *net;
     }
-    Measured::Fits {
-        records: at,
-        points,
-    }
+    Ok(Size { records, points })
 }

@@ -3,9 +3,9 @@
 
 pub mod inner;
 
-// What is known of the routes before they are written: how many records and points there are, or the record that is wrong.
-#[derive(Clone, Copy)]
-pub enum Measured {
-    Fits { records: usize, points: usize },
-    Wrong(usize),
+// How many records and points routes have.
+#[derive(Clone, Copy, PartialEq, Eq)]
+pub struct Size {
+    pub records: usize,
+    pub points: usize,
 }

@@ -1,7 +1,8 @@
 // The nodes of the tournament: each has the open vertex under it that is taken first, and its f. The nodes 2 i and 2 i + 1 are below i.
-ghost use Rattle.std.specs.Prelude.{◌≡◌, ◌+◌, ◌-◌, ◌*◌, ◌/◌, ◌^◌, ◌<◌};
+ghost use Rattle.std.specs.Prelude.{◌≡◌, ◌≢◌, ◌+◌, ◌-◌, ◌*◌, ◌/◌, ◌^◌, ◌<◌, MatchOption};
 ghost use Rattle.reach.specs.Turns.{at};
 ghost use Rattle.theta.specs.Order.{ranked};
+ghost use Rattle.tournament.specs.Contest.{no_key};
 ghost use Rattle.tournament.specs.Nodes.{Room, Seated, Won, Entered, Renewed};
 ghost use Rattle.ranks.specs.Ranks.{numbers, seen};
 
@@ -102,13 +103,17 @@ pub fn renew(
     keys[i] = first.f;
 }
 
-// The leader of all.
-pub fn first(leads: &[Vertex], keys: &[u64]) -> Leader
+// The leader of all, if a vertex is open.
+pub fn first(leads: &[Vertex], keys: &[u64]) -> Option<Leader>
     requires { Room 1 leads.now keys.now }
-    ensures { (result.vertex ≡ at leads.now 1) × (result.f ≡ at keys.now 1) }
+    ensures { MatchOption result (at keys.now 1 ≡ no_key) (λ leader. (leader.vertex ≡ at leads.now 1) × (leader.f ≡ at keys.now 1) × (leader.f ≢ no_key)) }
 {
-    Leader {
-        vertex: leads[1] as usize,
-        f: keys[1],
+    let f = keys[1];
+    if f == NO_KEY {
+        return None;
     }
+    Some(Leader {
+        vertex: leads[1] as usize,
+        f,
+    })
 }

@@ -1,3 +1,1 @@
-mod Refused
-mod Calls
 pub mod Determined

@@ -1,14 +1,41 @@
 // The call for the crate above: the reading of a route file, for C.
 ghost use Rattle.std.specs.Prelude.{◌≡◌};
-ghost use Rattle.board.specs.Handed.{refused, judged};
 ghost use Rattle.tracks.specs.Layout.{slices};
-ghost use Rattle.tracks.specs.Answers.{no_sizes, handed_read};
+ghost use Rattle.tracks.specs.Answers.{handed_read};
 ghost use Rattle.tracking.specs.Tracking.{told_routes};
 ghost use Rattle.tracking.specs.Calls.{RoutesReadForC};
 
 use crate::Routes;
+use board::Numbered;
 use readback::read_routes;
-use tracks::ReadAnswer;
+use tracks::{ReadRefusal, Sizes};
+
+// What C gets of a read.
+impl From<Result<Sizes, ReadRefusal>> for Routes {
+    ghost from_gives = { λ answer routes. routes ≡ told_routes (handed_read answer) };
+
+    fn from(answer: Result<Sizes, ReadRefusal>) -> Routes {
+        match answer {
+            Ok(sizes) => Routes {
+                number: 0,
+                place: 0,
+                second: 0,
+                nets: sizes.nets as u64,
+                points: sizes.points as u64,
+            },
+            Err(why) => {
+                let row = why.row();
+                Routes {
+                    number: row.number,
+                    place: row.place as u64,
+                    second: row.second as u64,
+                    nets: 0,
+                    points: 0,
+                }
+            }
+        }
+    }
+}
 
 // A route file into slices of routes.
 pub fn read_routes_for_c(
@@ -20,37 +47,5 @@ pub fn read_routes_for_c(
 ) -> Routes
     ensures { RoutesReadForC file.now (slices nets.old counts.old xs.old ys.old) result (slices nets.new counts.new xs.new ys.new) }
 {
-    tell_routes(read_routes(file, nets, counts, xs, ys))
-}
-
-// What C gets of a refused read.
-fn refuse_read(number: u64, place: u64, second: u64) -> Routes
-    ensures { result ≡ told_routes (judged no_sizes (refused number place second)) }
-{
-    Routes {
-        number,
-        place,
-        second,
-        nets: 0,
-        points: 0,
-    }
-}
-
-// What C gets of a read.
-fn tell_routes(answer: ReadAnswer) -> Routes
-    ensures { result ≡ told_routes (handed_read answer) }
-{
-    match answer {
-        ReadAnswer::Read { nets, points } => Routes {
-            number: 0,
-            place: 0,
-            second: 0,
-            nets: nets as u64,
-            points: points as u64,
-        },
-        ReadAnswer::Refused(why) => {
-            refuse_read(why.number(), why.place() as u64, why.second() as u64)
-        }
-        ReadAnswer::Short => refuse_read(21, 0, 0),
-    }
+    read_routes(file, nets, counts, xs, ys).into()
 }

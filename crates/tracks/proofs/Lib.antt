@@ -4,7 +4,7 @@ pub mod Trips
 pub mod Judged
 pub mod Laying
 pub mod Rising
-pub mod Sizes
+pub mod Counted
 pub mod Determined
 pub mod Theorems
 pub mod Worked

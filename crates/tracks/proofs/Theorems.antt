@@ -8,6 +8,7 @@ use lib.Dec.{ltb, eqb}
 use lib.ListN.{length, get_or, take, drop}
 use lib.Seq.{take_at, take_all, length-take-le}
 use borrow.Author.Tests.{not-false, ltb-false, eqb-true, le-ltb}
+use Rattle.std.specs.Prelude.{Result, Ok}
 use Rattle.laws.proofs.Tests.{or_neither}
 use Rattle.board.specs.Handed.{Verdict, passes, row, Handed, answer}
 use Rattle.board.proofs.Verdicts.{row_passes, both_pass, row_within, then_within}
@@ -15,10 +16,9 @@ use Rattle.records.specs.Records.{record_bytes, records, byte, length_row, in_or
 use Rattle.records.proofs.Stray.{unused_within}
 use Rattle.records.proofs.InOrder.{order_within}
 use Rattle.refusals.proofs.Refusing.{Numbered, answered}
-use Rattle.tracks.specs.declared.ReadAnswer.{ReadAnswer}
-use Rattle.tracks.specs.declared.ReadAnswer.TheVariants.{Read}
-use Rattle.tracks.specs.declared.WriteAnswer.{WriteAnswer}
-use Rattle.tracks.specs.declared.WriteAnswer.TheVariants.{Written}
+use Rattle.tracks.specs.declared.Sizes as code
+use Rattle.tracks.specs.declared.ReadRefusal.{ReadRefusal}
+use Rattle.tracks.specs.declared.WriteRefusal.{WriteRefusal}
 use Rattle.tracks.specs.Tracks.{Point, Route, file_of, routes_in}
 use Rattle.tracks.specs.Faults.{is_unknown, used_by, is_wrong, record_rows, file_rows}
 use Rattle.tracks.specs.Layout.{Slices, slices, numbers_of, counts_of, xs_of, ys_of, laid_out, points_before, routes_of}
@@ -67,12 +67,12 @@ routes_again rs e = routes_back rs (distinct rs (all_records (file_of rs) e))
 
 -- ---- where routes were written, and the part that was written is read into slices that are long enough
 
-module _ (s : Slices) (before after : List ℕ) (n : ℕ) (wrote : RoutesWritten s before (handed_write (Written n)) after) where
+module _ (s : Slices) (before after : List ℕ) (n : ℕ) (wrote : RoutesWritten s before (handed_write (Ok n)) after) where
   write_numbered : Numbered (write_rows s (length before))
   unfolding write_rows
   write_numbered = then_within (ltb 0) (file_rows (file_for s)) _ (file_numbered (file_for s)) (row_within (ltb 0) (is_lacking s (length before)) 21 0 refl)
 
-  accepted : (write_rows s (length before) ≡ passes) × (handed_write (Written n) ≡ answer (record { records = records (file_for s) }))
+  accepted : (write_rows s (length before) ≡ passes) × (handed_write (Ok n) ≡ answer (record { records = records (file_for s) }))
   unfolding write_row
   accepted = answered no_records (write_rows s (length before)) write_numbered wrote.row_is
 
@@ -126,8 +126,8 @@ module _ (s : Slices) (before after : List ℕ) (n : ℕ) (wrote : RoutesWritten
       ∙ take_at (file_for s) (drop (length (file_for s)) before) (n * record_bytes) long
 
   -- then it is read, and the slices hold the routes that were written
-  pub written_then_read : {lent left : Slices} {r : ReadAnswer} → is_short lent_routes lent ≡ false → RoutesRead part lent (handed_read r) left
-      → (r ≡ Read nets_of points_of) × (left ≡ slices_after passes lent_routes lent)
+  pub written_then_read : {lent left : Slices} {r : Result code.Sizes ReadRefusal} → is_short lent_routes lent ≡ false → RoutesRead part lent (handed_read r) left
+      → (r ≡ Ok (record { nets = nets_of; points = points_of })) × (left ≡ slices_after passes lent_routes lent)
   unfolding read_rows read_row
   written_then_read {lent} {left} {r} room read =
       let again : routes_in part ≡ routes_of s = ap routes_in part_is ∙ routes_again (routes_of s) file_passes in
@@ -137,7 +137,7 @@ module _ (s : Slices) (before after : List ℕ) (n : ℕ) (wrote : RoutesWritten
       let rows : read_rows part lent ≡ passes = rw (clean, enough) in
       let nets : length (numbers_of (routes_in part)) ≡ nets_of = ap (λ (o : Slices). length o.nets) out in
       let points : length (xs_of (routes_in part)) ≡ points_of = ap (λ (o : Slices). length o.xs) out ∙ length-take-le points_of s.xs none_lacks.1 in
-      let expected : RoutesRead part lent (handed_read (Read nets_of points_of)) (slices_after passes lent_routes lent) = record {
+      let expected : RoutesRead part lent (handed_read (Ok (record { nets = nets_of; points = points_of }))) (slices_after passes lent_routes lent) = record {
         row_is = rw (clean, enough, nets, points);
         after_is = ap₂ (λ (v : Verdict) (o : Slices). slices_after v o lent) (sym rows) (sym out);
       } in
@@ -145,7 +145,7 @@ module _ (s : Slices) (before after : List ℕ) (n : ℕ) (wrote : RoutesWritten
 
 -- ---- where a file was read, and the routes are written into a slice that is long enough
 
-module _ (file : List ℕ) (before after : Slices) (n p : ℕ) (read : RoutesRead file before (handed_read (Read n p)) after) where
+module _ (file : List ℕ) (before after : Slices) (n p : ℕ) (read : RoutesRead file before (handed_read (Ok (record { nets = n; points = p }))) after) where
   read_numbered : Numbered (read_rows file before)
   unfolding read_rows
   read_numbered = then_within (ltb 0) (file_rows file) _ (file_numbered file) (row_within (ltb 0) (is_short (laid_out (routes_in file)) before) 21 0 refl)
@@ -153,7 +153,7 @@ module _ (file : List ℕ) (before after : Slices) (n p : ℕ) (read : RoutesRea
   abbrev sizes : Sizes
   sizes = record { nets = length (numbers_of (routes_in file)); points = length (xs_of (routes_in file)) }
 
-  taken : (read_rows file before ≡ passes) × (handed_read (Read n p) ≡ answer sizes)
+  taken : (read_rows file before ≡ passes) × (handed_read (Ok (record { nets = n; points = p })) ≡ answer sizes)
   unfolding read_row
   taken = answered no_sizes (read_rows file before) read_numbered read.row_is
 
@@ -184,8 +184,8 @@ module _ (file : List ℕ) (before after : Slices) (n p : ℕ) (read : RoutesRea
       rw (a, b, c, d)
 
   -- then they are written, and the slice holds the bytes that were read; a file's entries are bytes
-  pub read_then_written : ((k : ℕ) → get_or file k 0 < 256) → {lent left : List ℕ} {r : WriteAnswer} → length file ≤ length lent
-      → RoutesWritten routes_read lent (handed_write r) left → (r ≡ Written (records file)) × (left ≡ laid file lent)
+  pub read_then_written : ((k : ℕ) → get_or file k 0 < 256) → {lent left : List ℕ} {r : Result ℕ WriteRefusal} → length file ≤ length lent
+      → RoutesWritten routes_read lent (handed_write r) left → (r ≡ Ok (records file)) × (left ≡ laid file lent)
   unfolding write_rows write_row is_lacking
   read_then_written bytes {lent} {left} {r} room wrote =
       let rs : List Route = routes_in file in
@@ -200,7 +200,7 @@ module _ (file : List ℕ) (before after : Slices) (n p : ℕ) (read : RoutesRea
       let ys : ltb (length (ys_of rs)) points ≡ false = le-ltb (length (ys_of rs)) points (omega (arith, points_all (λ (q : Point). q.y) rs)) in
       let enough : is_lacking routes_read (length lent) ≡ false = same ∙ rw (counted, fits, xs, ys) in
       let rows : write_rows routes_read (length lent) ≡ passes = rw (clean, enough) in
-      let expected : RoutesWritten routes_read lent (handed_write (Written (records file))) (laid file lent) = record {
+      let expected : RoutesWritten routes_read lent (handed_write (Ok (records file))) (laid file lent) = record {
         row_is = rw (rows, back);
         after_is = ap₂ (λ (v : Verdict) (f : List ℕ). file_after v f lent) (sym rows) (sym back);
       } in

@@ -1,11 +1,12 @@
 -- What the reader and the writer of route files hand back, in the table's numbers, and what the lent slices hold afterwards.
-use Rattle.std.specs.Prelude.{ℕ, ◌≡◌, Bool, ◌||◌, List, ◌++◌, ltb, length, drop}
-use Rattle.board.specs.Handed.{Verdict, passes, refused, row, and_then, Handed, answer, unless, judged}
+use Rattle.std.specs.Prelude.{ℕ, ◌≡◌, Bool, ◌||◌, List, ◌++◌, ltb, length, drop, Result}
+use Rattle.board.specs.Handed.{Verdict, passes, refused, row, and_then, Handed, answer, unless, handed}
 use Rattle.records.specs.Records.{records}
-use Rattle.tracks.specs.declared.ReadAnswer.{ReadAnswer}
-use Rattle.tracks.specs.declared.ReadAnswer.TheVariants as reading
-use Rattle.tracks.specs.declared.WriteAnswer.{WriteAnswer}
-use Rattle.tracks.specs.declared.WriteAnswer.TheVariants as writing
+use Rattle.tracks.specs.declared.Sizes as code
+use Rattle.tracks.specs.declared.ReadRefusal.{ReadRefusal}
+use Rattle.tracks.specs.declared.ReadRefusal.TheVariants as reading
+use Rattle.tracks.specs.declared.WriteRefusal.{WriteRefusal}
+use Rattle.tracks.specs.declared.WriteRefusal.TheVariants as writing
 use Rattle.tracks.specs.Tracks.{file_of, routes_in}
 use Rattle.tracks.specs.Faults.{file_rows, refusal_row}
 use Rattle.tracks.specs.Layout.{Slices, slices, numbers_of, xs_of, laid_out, points_before, routes_of}
@@ -24,10 +25,13 @@ pub record Sizes : Type 0 where
 abbrev pub no_sizes : Sizes
 no_sizes = record { nets = 0; points = 0 }
 
-abbrev pub handed_read : ReadAnswer → Handed Sizes
-handed_read (reading.Read nets points) = answer (record { nets = nets; points = points })
-handed_read (reading.Refused why) = judged no_sizes (refusal_row why)
-handed_read reading.Short = judged no_sizes (refused 21 0 0)
+-- the row of each refusal of the code
+abbrev pub read_refusal_row : ReadRefusal → Verdict
+read_refusal_row (reading.Routes why) = refusal_row why
+read_refusal_row reading.Short = refused 21 0 0
+
+abbrev pub handed_read : Result code.Sizes ReadRefusal → Handed Sizes
+handed_read = handed no_sizes (λ (s : code.Sizes). record { nets = s.nets; points = s.points }) read_refusal_row
 
 -- a slice is too short
 unfoldable pub is_short : (needed lent : Slices) → Bool
@@ -65,10 +69,13 @@ pub record Records : Type 0 where
 abbrev pub no_records : Records
 no_records = record { records = 0 }
 
-abbrev pub handed_write : WriteAnswer → Handed Records
-handed_write (writing.Written n) = answer (record { records = n })
-handed_write (writing.Order i) = judged no_records (refused 22 i 0)
-handed_write writing.Short = judged no_records (refused 21 0 0)
+-- the row of each refusal of the code
+abbrev pub write_refusal_row : WriteRefusal → Verdict
+write_refusal_row (writing.Order i) = refused 22 i 0
+write_refusal_row writing.Short = refused 21 0 0
+
+abbrev pub handed_write : Result ℕ WriteRefusal → Handed Records
+handed_write = handed no_records (λ (n : ℕ). record { records = n }) write_refusal_row
 
 -- the file that is to be written
 abbrev pub file_for : Slices → List ℕ

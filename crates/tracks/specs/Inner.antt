@@ -1,5 +1,5 @@
 -- What the code judges a record by: the record before it, as two numbers. No public contract cites it, so nobody need believe this.
-use Rattle.std.specs.Prelude.{ℕ, zero, suc, Bool, not, ◌&&◌, ◌||◌, cond, List, ltb, eqb}
+use Rattle.std.specs.Prelude.{ℕ, zero, suc, Bool, not, ◌&&◌, ◌||◌, cond, List, ltb, eqb, Option, Some, None}
 use Rattle.tracks.specs.Tracks.{is_point, net_of, place_of}
 use Rattle.tracks.specs.Faults.{net_before}
 
@@ -7,6 +7,11 @@ use Rattle.tracks.specs.Faults.{net_before}
 abbrev pub next_place : List ℕ → ℕ → ℕ
 next_place file zero = 0
 next_place file (suc i) = cond (is_point file i) (suc (place_of file i)) 0
+
+-- the same as the code has it
+abbrev pub wanted : ℕ → Option ℕ
+wanted zero = None
+wanted (suc n) = Some (suc n)
 
 -- a record of this net, a point at this place or none, after a record of the net `last`
 unfoldable pub wrong_after : (last next net place : ℕ) → (point : Bool) → Bool

@@ -1,4 +1,5 @@
 pub mod Tracks
+pub mod Kind
 pub mod Faults
 pub mod Layout
 pub mod Answers

@@ -1,61 +1,34 @@
-// Calls for the crates above, which have checked their board: each says what it requires.
+// What stops a leg between two vertices of a checked board, and whether it has sight.
 ghost use Rattle.std.specs.Prelude.{◌≡◌};
-ghost use Rattle.board.specs.Board.{board};
-ghost use Rattle.board.specs.Inner.{Sound};
+ghost use Rattle.board.specs.Checked.{board_of};
 ghost use Rattle.legs.specs.Sight.{sees};
 ghost use Rattle.legs.specs.Stops.{first_stop};
-ghost use Rattle.legs.specs.Inner.{EndsOn};
 
 use edges::inner::{first_walled, stop_after};
 use legs::Stop;
+use legs::leg::Leg;
 use slants::inner::{first_blocked, stop_at};
-use walls::leg;
 
-// What stops the leg first, counted from its first end.
-pub fn first_stop(
-    cells: &[u8],
-    width: usize,
-    height: usize,
-    ax: usize,
-    ay: usize,
-    bx: usize,
-    by: usize,
-) -> Stop
-    requires sound { Sound (board cells.now width height) }
-    requires ends_on { EndsOn (board cells.now width height) ax ay bx by }
-    ensures { result ≡ first_stop (board cells.now width height) ax ay bx by }
+// What stops the leg first, counted from its first end. It is compiled into each caller: one that asks for sight alone divides nothing.
+#[inline(always)]
+pub fn first_stop(leg: &Leg<'_>) -> Stop
+    ensures { result ≡ first_stop (board_of leg.now.board) leg.now.ax leg.now.ay leg.now.bx leg.now.by }
 {
-    if ay == by {
-        let steps = first_walled(cells, width, height, true, ay, ax, bx);
-        return stop_after(true, ay, ax, bx, steps);
+    if leg.ay == leg.by {
+        let met = first_walled(&leg.board, true, leg.ay, leg.ax, leg.bx);
+        return stop_after(true, leg.ay, leg.ax, leg.bx, met);
     }
-    if ax == bx {
-        let steps = first_walled(cells, width, height, false, ax, ay, by);
-        return stop_after(false, ax, ay, by, steps);
+    if leg.ax == leg.bx {
+        let met = first_walled(&leg.board, false, leg.ax, leg.ay, leg.by);
+        return stop_after(false, leg.ax, leg.ay, leg.by, met);
     }
-    let number = first_blocked(cells, width, height, ax, ay, bx, by);
-    stop_at(cells.len(), width, ax, ay, bx, by, number)
+    stop_at(leg, first_blocked(leg))
 }
 
-// Whether the leg from (ax, ay) to (bx, by) has sight.
-pub fn sees(
-    cells: &[u8],
-    width: usize,
-    height: usize,
-    ax: usize,
-    ay: usize,
-    bx: usize,
-    by: usize,
-) -> bool
-    requires sound { Sound (board cells.now width height) }
-    requires ends_on { EndsOn (board cells.now width height) ax ay bx by }
-    ensures { result ≡ sees (board cells.now width height) ax ay bx by }
+// Whether the leg has sight.
+pub fn sees(leg: &Leg<'_>) -> bool
+    ensures { result ≡ sees (board_of leg.now.board) leg.now.ax leg.now.ay leg.now.bx leg.now.by }
 {
-    if ay == by {
-        return first_walled(cells, width, height, true, ay, ax, bx) == leg::distance(ax, bx);
-    }
-    if ax == bx {
-        return first_walled(cells, width, height, false, ax, ay, by) == leg::distance(ay, by);
-    }
-    first_blocked(cells, width, height, ax, ay, bx, by) == cells.len()
+    let stop = first_stop(leg);
+    matches!(stop, Stop::Clear)
 }

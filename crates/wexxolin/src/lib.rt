@@ -30,7 +30,6 @@ ghost use Rattle.printing.specs.Calls.{LineForC};
 use aiming::Toward;
 use aiming::inner::{direction_between_for_c, direction_for_c};
 use approval::Approval;
-use approval::inner::tell_check;
 use approve::approve;
 use board::Vertex;
 use counting::Counted;
@@ -47,7 +46,6 @@ use recording::inner::{path_points_for_c, write_routes_for_c};
 use recording::{Recorded, Turned};
 use router::route;
 use routing::Found;
-use routing::inner::tell_route;
 use sighting::Seen;
 use sighting::inner::sight_for_c;
 use tracking::Routes;
@@ -128,7 +126,7 @@ pub extern "C" fn wexxolin_route_2(
 ) -> Found
     ensures { RoutedForC (board cells.now width height) sx sy gx gy (slices g.old parents.old marks.old legs.old path.old) (slices g.new parents.new marks.new legs.new path.new) result }
 {
-    tell_route(route(
+    Found::from(route(
         cells, width, height, sx, sy, gx, gy, g, parents, marks, legs, path,
     ))
 }
@@ -239,7 +237,7 @@ pub extern "C" fn wexxolin_check_1(
 ) -> Approval
     ensures { CheckedForC job.now routes.now (bureau.slices board.old g.old parents.old marks.old legs.old units.old leg_counts.old) result (bureau.slices board.new g.new parents.new marks.new legs.new units.new leg_counts.new) }
 {
-    tell_check(approve(
+    Approval::from(approve(
         job, routes, board, g, parents, marks, legs, units, leg_counts,
     ))
 }

@@ -1,80 +1,114 @@
 // Runs document 01's worked rows; what it prints is compared with the file stdout.
 #![tactic(auto)]
 
-use board::{MOST, Vertex};
-use length::{Length, Measured};
-use router::route;
-use sight::{Answer, sight};
-use std::io;
+use board::{MOST, Numbered, Vertex};
+use legs::Stop;
+use length::Length;
+use router::{Answer, RequestRefusal, route};
+use sight::sight;
+use std::fmt::{Display, Formatter, Write};
+use std::{fmt, io};
 
-fn refused(rt: &impl Print, number: u64) -> io::Result<()> {
-    println!(rt; "refused {number}")
-}
-
-// One row of the table of lengths.
-fn length_row(rt: &impl Print, question: &str, dx: i32, dy: i32) -> io::Result<()> {
-    print!(rt; "{question}")?;
-    match Length::of(dx, dy) {
-        Measured::Of(l) => println!(rt; "{}", l.units),
-        Measured::Refused(why) => refused(rt, why.number()),
+// The answer to a row's question, or the number of its refusal.
+fn answer<T: Display + Drop, R: Numbered>(rt: &impl Print, answer: Result<T, R>) -> io::Result<()> {
+    match answer {
+        Ok(found) => println!(rt; "{found}"),
+        Err(why) => println!(rt; "refused {}", why.row().number),
     }
 }
 
-// A point, or a cell by its first corner.
-fn place(rt: &impl Print, x: usize, y: usize) -> io::Result<()> {
-    numbers(rt, " ", x as u64, ",", y as u64)
-}
+// What stops a leg first, in words.
+#[derive(Clone, Copy)]
+struct Sight(Stop);
 
-// One row on sight, of a board of 2 by 2 cells: yes, or no and what stops the leg first.
-fn sight_row(
-    rt: &impl Print,
-    question: &str,
-    cells: &[u8],
-    ax: usize,
-    ay: usize,
-    bx: usize,
-    by: usize,
-) -> io::Result<()> {
-    print!(rt; "{question}")?;
-    match sight(cells, 2, 2, ax, ay, bx, by) {
-        Answer::Clear => println!(rt; "yes"),
-        Answer::Cell(x, y) => {
-            print!(rt; "no, the cell")?;
-            place(rt, x, y)?;
-            println!(rt)
+impl Display for Sight {
+    fn fmt<W: Write>(&self, f: &mut Formatter<W>) -> fmt::Result {
+        match self.0 {
+            Stop::Clear => write!(f, "yes"),
+            Stop::Cell(x, y) => write!(f, "no, the cell {x},{y}"),
+            Stop::Edge(x, y, x2, y2) => write!(f, "no, the edge {x},{y} {x2},{y2}"),
+            Stop::Vertex(x, y) => write!(f, "no, the vertex {x},{y}"),
         }
-        Answer::Edge(x, y, x2, y2) => {
-            print!(rt; "no, the edge")?;
-            place(rt, x, y)?;
-            place(rt, x2, y2)?;
-            println!(rt)
-        }
-        Answer::Vertex(x, y) => {
-            print!(rt; "no, the vertex")?;
-            place(rt, x, y)?;
-            println!(rt)
-        }
-        Answer::Refused(why) => refused(rt, why.number()),
     }
 }
 
-// One row on a route: units, expanded and tests, with the lent path slice.
-fn route_row(
-    rt: &impl Print,
-    question: &str,
+// What a search found, in words: the units of a path, and both counts.
+#[derive(Clone, Copy)]
+struct Route(Answer);
+
+impl Display for Route {
+    fn fmt<W: Write>(&self, f: &mut Formatter<W>) -> fmt::Result {
+        match self.0 {
+            Answer::Found {
+                units,
+                vertices,
+                expansions,
+                tests,
+                ..
+            } => write!(
+                f,
+                "path of {vertices} vertices, {units}, {expansions}, {tests}"
+            ),
+            Answer::NoPath { expansions, tests } => write!(f, "none, {expansions}, {tests}"),
+        }
+    }
+}
+
+// The rows of the table of lengths.
+fn length_rows(rt: &impl Print) -> io::Result<()> {
+    let legs = [
+        (0, 0),
+        (1, 0),
+        (1, 1),
+        (-1, 2),
+        (3, -4),
+        (63, 63),
+        (-63, 0),
+        (64, 0),
+        (0, -64),
+        (-64, 64),
+        (i32::MIN, 0),
+    ];
+    for (dx, dy) in legs {
+        print!(rt; "length of {dx},{dy}: ")?;
+        answer(rt, Length::of(dx, dy).map(|length| length.units))?;
+    }
+    Ok(())
+}
+
+// The rows on sight, on boards of 2 by 2 cells.
+fn sight_rows(rt: &impl Print) -> io::Result<()> {
+    let corner = [0u8, 1, 0, 0];
+    let legs = [
+        (0, 0, 2, 1),
+        (0, 0, 2, 2),
+        (1, 0, 1, 1),
+        (1, 0, 2, 0),
+        (2, 0, 0, 0),
+    ];
+    for (ax, ay, bx, by) in legs {
+        print!(rt; "sight ({ax},{ay})-({bx},{by}): ")?;
+        answer(rt, sight(&corner, 2, 2, ax, ay, bx, by).map(Sight))?;
+    }
+    let gap = [0u8, 1, 1, 0];
+    print!(rt; "sight (0,0)-(2,2), a diagonal gap: ")?;
+    answer(rt, sight(&gap, 2, 2, 0, 0, 2, 2).map(Sight))
+}
+
+// The route from (0,0) to a goal, with the lent path slice.
+fn route_to(
+    gx: usize,
+    gy: usize,
     cells: &[u8],
     width: usize,
     height: usize,
-    gx: usize,
-    gy: usize,
     path: &mut [Vertex],
-) -> io::Result<()> {
+) -> Result<Route, RequestRefusal> {
     let mut g = [0u64; MOST];
     let mut parents = [0 as Vertex; MOST];
     let mut marks = [0u8; MOST];
     let mut legs = [0 as Vertex; MOST];
-    print!(rt; "{question}")?;
-    match route(
+    route(
         cells,
         width,
         height,
@@ -87,128 +121,41 @@ fn route_row(
         &mut marks,
         &mut legs,
         path,
-    ) {
-        router::Answer::Found {
-            cells: _,
-            units,
-            vertices,
-            legs: _,
-            expansions,
-            tests,
-        } => {
-            numbers(rt, "path of ", vertices as u64, " vertices, ", units)?;
-            numbers(rt, ", ", expansions, ", ", tests)?;
-            println!(rt)
-        }
-        router::Answer::NoPath { expansions, tests } => {
-            numbers(rt, "none, ", expansions, ", ", tests)?;
-            println!(rt)
-        }
-        router::Answer::Refused(why) => refused(rt, why.number()),
-        router::Answer::Work => refused(rt, 6),
-        router::Answer::Short(_) => refused(rt, 7),
-    }
-}
-
-// Two numbers, each after its words.
-fn numbers(rt: &impl Print, first: &str, a: u64, second: &str, b: u64) -> io::Result<()> {
-    print!(rt; "{first}{a}{second}{b}")
-}
-
-// The rows of the table of lengths.
-fn length_rows(rt: &impl Print) -> io::Result<()> {
-    length_row(rt, "length of 0,0: ", 0, 0)?;
-    length_row(rt, "length of 1,0: ", 1, 0)?;
-    length_row(rt, "length of 1,1: ", 1, 1)?;
-    length_row(rt, "length of -1,2: ", -1, 2)?;
-    length_row(rt, "length of 3,-4: ", 3, -4)?;
-    length_row(rt, "length of 63,63: ", 63, 63)?;
-    length_row(rt, "length of -63,0: ", -63, 0)?;
-    length_row(rt, "length of 64,0: ", 64, 0)?;
-    length_row(rt, "length of 0,-64: ", 0, -64)?;
-    length_row(rt, "length of -64,64: ", -64, 64)?;
-    length_row(rt, "length of -2147483648,0: ", -2147483648, 0)
-}
-
-// The rows on sight.
-fn sight_rows(rt: &impl Print) -> io::Result<()> {
-    let corner = [0u8, 1, 0, 0];
-    sight_row(rt, "sight (0,0)-(2,1): ", &corner, 0, 0, 2, 1)?;
-    sight_row(rt, "sight (0,0)-(2,2): ", &corner, 0, 0, 2, 2)?;
-    sight_row(rt, "sight (1,0)-(1,1): ", &corner, 1, 0, 1, 1)?;
-    sight_row(rt, "sight (1,0)-(2,0): ", &corner, 1, 0, 2, 0)?;
-    sight_row(rt, "sight (2,0)-(0,0): ", &corner, 2, 0, 0, 0)?;
-    let gap = [0u8, 1, 1, 0];
-    sight_row(rt, "sight (0,0)-(2,2), a diagonal gap: ", &gap, 0, 0, 2, 2)
-}
-
-// The rows on routes: from (0,0) to a goal.
-fn route_rows(rt: &impl Print) -> io::Result<()> {
-    let mut path = [0 as Vertex; MOST];
-    route_row(rt, "route (1,1), 1x1 free: ", &[0u8], 1, 1, 1, 1, &mut path)?;
-    route_row(
-        rt,
-        "route (1,1), 1x1 blocked: ",
-        &[1u8],
-        1,
-        1,
-        1,
-        1,
-        &mut path,
-    )?;
-    route_row(
-        rt,
-        "route (0,0), 1x1 blocked: ",
-        &[1u8],
-        1,
-        1,
-        0,
-        0,
-        &mut path,
-    )?;
-    let gate = [0u8, 1, 0];
-    route_row(
-        rt,
-        "route (3,0), 3x1 blocked in the middle: ",
-        &gate,
-        3,
-        1,
-        3,
-        0,
-        &mut path,
     )
+    .map(Route)
+}
+
+// The rows on routes.
+fn route_rows(rt: &impl Print) -> io::Result<()> {
+    let free = [0u8];
+    let full = [1u8];
+    let gate = [0u8, 1, 0];
+    let mut path = [0 as Vertex; MOST];
+    print!(rt; "route (1,1), 1x1 free: ")?;
+    answer(rt, route_to(1, 1, &free, 1, 1, &mut path))?;
+    print!(rt; "route (1,1), 1x1 blocked: ")?;
+    answer(rt, route_to(1, 1, &full, 1, 1, &mut path))?;
+    print!(rt; "route (0,0), 1x1 blocked: ")?;
+    answer(rt, route_to(0, 0, &full, 1, 1, &mut path))?;
+    print!(rt; "route (3,0), 3x1 blocked in the middle: ")?;
+    answer(rt, route_to(3, 0, &gate, 3, 1, &mut path))
 }
 
 // The path slice of net 1, and the sides of a board.
 fn boundaries(rt: &impl Print) -> io::Result<()> {
     let corner = [0u8, 1, 0, 0];
-    let mut three = [0 as Vertex; 3];
-    let mut two = [0 as Vertex; 2];
-    route_row(
-        rt,
-        "net 1 with a path slice of 3: ",
-        &corner,
-        2,
-        2,
-        2,
-        1,
-        &mut three,
-    )?;
-    route_row(
-        rt,
-        "net 1 with a path slice of 2: ",
-        &corner,
-        2,
-        2,
-        2,
-        1,
-        &mut two,
-    )?;
+    let mut path = [0 as Vertex; 3];
+    for room in [3, 2] {
+        print!(rt; "net 1 with a path slice of {room}: ")?;
+        answer(rt, route_to(2, 1, &corner, 2, 2, &mut path[..room]))?;
+    }
     let free = [0u8; 63];
-    let none = [0u8; 0];
-    route_row(rt, "a side of 63: ", &free, 63, 1, 1, 0, &mut three)?;
-    route_row(rt, "a side of 64: ", &free, 64, 1, 1, 0, &mut three)?;
-    route_row(rt, "a side of 0: ", &none, 0, 1, 1, 0, &mut three)
+    for side in [63, 64, 0] {
+        print!(rt; "a side of {side}: ")?;
+        let cells = &free[..side.min(63)];
+        answer(rt, route_to(1, 0, cells, side, 1, &mut path))?;
+    }
+    Ok(())
 }
 
 // All rows, in order, until one is lost.

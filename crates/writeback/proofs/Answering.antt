@@ -7,29 +7,27 @@ use native.Mathlib.Omega.{arith}
 use lib.Dec.{ltb}
 use lib.ListN.{length}
 use borrow.Author.Tests.{ltb-false}
+use Rattle.std.specs.Prelude.{Ok, Err}
 use Rattle.laws.proofs.Tests.{or_neither}
-use Rattle.board.specs.Handed.{Verdict, passes, refused}
+use Rattle.board.specs.Handed.{Verdict, passes}
 use Rattle.records.specs.Records.{records}
-use Rattle.tracks.specs.declared.WriteAnswer.TheVariants.{Written, Order, Short}
+use Rattle.tracks.specs.declared.WriteRefusal.{WriteRefusal}
+use Rattle.tracks.specs.declared.WriteRefusal.TheVariants.{Order, Short}
 use Rattle.tracks.specs.Faults.{file_rows}
 use Rattle.tracks.specs.Layout.{Slices}
-use Rattle.tracks.specs.Answers.{laid, handed_write, file_for, is_lacking, write_rows, write_row, file_after, RoutesWritten}
-use Rattle.tally.specs.declared.Measured.{Measured}
-use Rattle.tally.specs.declared.Measured.TheVariants.{Fits, Wrong}
-use Rattle.tally.specs.Inner.{Right, MeasuredAs}
+use Rattle.tracks.specs.Answers.{laid, write_refusal_row, handed_write, file_for, is_lacking, write_rows, write_row, file_after, RoutesWritten}
+use Rattle.tally.specs.Inner.{Right}
 use Rattle.laying.specs.Inner.{Fitting}
 
--- ---- it is wrong at a record
+-- ---- it is refused
 
-pub write_wrong : (s : Slices) (before : List ℕ) {m : Measured} {i : ℕ} → m ≡ Wrong i → MeasuredAs s m
-    → RoutesWritten s before (handed_write (Order i)) before
+pub write_refused : (s : Slices) (before : List ℕ) (why : WriteRefusal) → file_rows (file_for s) ≡ write_refusal_row why
+    → RoutesWritten s before (handed_write (Err why)) before
 unfolding write_rows write_row
-write_wrong s before {i = i} e w = let r : file_rows (file_for s) ≡ refused 22 i 0 = rw e at w in record { row_is = rw r; after_is = rw r }
+write_refused s before (Order i) e = record { row_is = rw e; after_is = rw e }
+write_refused s before Short e = record { row_is = rw e; after_is = rw e }
 
 -- ---- it is right
-
-pub right : (s : Slices) {m : Measured} {n p : ℕ} → m ≡ Fits n p → MeasuredAs s m → Right s n p
-right s e w = rw e at w
 
 module _ (s : Slices) {n p : ℕ} (r : Right s n p) (before : List ℕ) where
   -- the code's test
@@ -40,7 +38,7 @@ module _ (s : Slices) {n p : ℕ} (r : Right s n p) (before : List ℕ) where
   unfolding is_lacking
   short_is = rw (r.long, sym r.points_are)
 
-  pub write_short : is_lacking s (length before) ≡ true → RoutesWritten s before (handed_write Short) before
+  pub write_short : is_lacking s (length before) ≡ true → RoutesWritten s before (handed_write (Err Short)) before
   unfolding write_rows write_row
   write_short e = record { row_is = rw (r.passed, e); after_is = rw (r.passed, e) }
 
@@ -59,7 +57,7 @@ module _ (s : Slices) {n p : ℕ} (r : Right s n p) (before : List ℕ) where
           few = omega (arith, r.long, r.few);
         }
 
-    pub write_done : {after : List ℕ} → after ≡ laid (file_for s) before → RoutesWritten s before (handed_write (Written n)) after
+    pub write_done : {after : List ℕ} → after ≡ laid (file_for s) before → RoutesWritten s before (handed_write (Ok n)) after
     unfolding write_rows write_row
     write_done g =
         let rows : write_rows s (length before) ≡ passes = rw (r.passed, e) in

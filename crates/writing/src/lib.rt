@@ -5,17 +5,17 @@ ghost use Rattle.lines.specs.Answers.{bytes_of, handed_line, LineWritten};
 
 use board::Vertex;
 use fitting::inner::line_fits;
-use lines::{Answer, Line};
+use lines::{Line, Short};
 use put::put_line;
 
 mod put;
 
-// Writes a line at the start of the lent slice, or nothing if it has no room there.
-pub fn write_line(line: Line, width: usize, path: &[Vertex], out: &mut [u8]) -> Answer
+// Writes a line at the start of the lent slice and says how many bytes it has, or writes nothing if it has no room there.
+pub fn write_line(line: Line, width: usize, path: &[Vertex], out: &mut [u8]) -> Result<usize, Short>
     ensures { LineWritten (bytes_of line width path.now) out.old (handed_line result) out.new }
 {
     if !line_fits(line, width, path, out.len()) {
-        return Answer::Short;
+        return Err(Short);
     }
-    Answer::Written(put_line(line, width, path, out))
+    Ok(put_line(line, width, path, out))
 }

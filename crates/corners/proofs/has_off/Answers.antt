@@ -1,32 +1,14 @@
-use mathlib.Core.Path.{◌≡◌, refl, sym}
-use Prim.Native.Nat.{◌<◌}
-use native.Mathlib.Omega.{arith}
-use lib.ListN.{length, get_or}
-use Rattle.laws.proofs.Below.{none_yet}
+use Rattle.std.proofs.Common.{◌∙◌, ℕ, ltb, rules, tests}
+use Rattle.std.proofs.lemmas.Iterator.{YieldsList-from_slice}
+use Rattle.std.proofs.lemmas.Iterator.Search.{any_from_yields_List}
 use Rattle.board.specs.Limits.{largest_side}
 use Rattle.board.specs.Board.{row_of}
-use Rattle.corners.proofs.Points.{off_here, on_next, none_off}
+use Rattle.corners.specs.Corners.{has_off}
+use Rattle.corners.proofs.Points.{some_is}
 use Rattle.corners.proofs.has_off.Goals as goal
 
-pub loop-k-init : goal.loop-k-init
-loop-k-init c = (omega arith, refl, none_yet _)
-
-pub returns-then-row_of-gt-SIDE : goal.returns-then-row_of-gt-SIDE
-returns-then-row_of-gt-SIDE c =
-    let l = c.loop-k in
-    let a = c.args in
-    let below : largest_side < row_of a.width (get_or a.path.now l.k 0) = omega (arith, c.if-row_of-gt-SIDE.true, c.row_of.ensures) in
-    sym (off_here a.path.now a.width l.k l.invariant.2 below (omega (arith, l.invariant.1)))
-
-pub loop-k-preserved : goal.loop-k-preserved
-loop-k-preserved c =
-    let l = c.loop-k in
-    let a = c.args in
-    (omega arith, l.invariant.1, on_next a.path.now a.width l.k l.invariant.2 (omega (arith, c.if-row_of-gt-SIDE.false, c.row_of.ensures)))
-
 pub returns : goal.returns
+unfolding has_off
 returns c =
-    let l = c.loop-k in
-    let a = c.args in
-    let all : l.k ≡ length a.path.now = omega (arith, l.invariant.1) in
-    sym (none_off a.path.now a.width (rw all at l.invariant.2))
+    let off = λ (v : ℕ). ltb largest_side (row_of c.args.width v) in
+    any_from_yields_List off _ _ _ c.any.ensures.ran (YieldsList-from_slice c.args.path.now cc) (λ x b q k. search (rules, tests)) ∙ some_is off c.args.path.now

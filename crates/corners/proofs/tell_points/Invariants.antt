@@ -1,16 +1,13 @@
 -- `corners::tell_points` writes point after point. The loop's invariant: those before are written.
 use mathlib.Core.Path.{◌≡◌}
 use mathlib.Core.List.{◌++◌}
-use Prim.Native.Nat.{ℕ, ◌-◌, ◌≤◌}
-use lib.ListN.{length, get_or, drop}
+use Prim.Native.Nat.{ℕ}
+use lib.ListN.{get_or, drop}
 use Rattle.board.specs.Board.{column_of, row_of}
 use Rattle.bits.specs.Packed.{entries}
 use Rattle.corners.proofs.tell_points.Given as goal
 
 abbrev pub invariant-loop-k : goal.invariant-loop-k
 invariant-loop-k l =
-    (l.k ≤ l.k-end) × (l.k-end ≡ length l.path) × (l.xs ≡ entries l.k (λ (n : ℕ). column_of l.width (get_or l.path n 0)) ++ drop l.k l.initial.xs)
+    (l.xs ≡ entries l.k (λ (n : ℕ). column_of l.width (get_or l.path n 0)) ++ drop l.k l.initial.xs)
     × (l.ys ≡ entries l.k (λ (n : ℕ). row_of l.width (get_or l.path n 0)) ++ drop l.k l.initial.ys)
-
-abbrev pub decreases-loop-k : goal.decreases-loop-k
-decreases-loop-k l = l.k-end - l.k

@@ -1,7 +1,7 @@
 -- The cells on both sides of a leg by their indices: what the byte at one tells, and a step along the leg. Assumes nothing.
 use Prim.Native.Nat.{ℕ, ◌+◌, ◌*◌, ◌-◌, ◌≤◌, ◌<◌}
-use mathlib.Core.Path.{◌≡◌, sym}
-use mathlib.Core.Bool.{Bool, true, false, cond}
+use mathlib.Core.Path.{◌≡◌, sym, ◌∙◌}
+use mathlib.Core.Bool.{Bool, true, false, ◌&&◌, cond}
 use native.Mathlib.Nat.{mul-le-mul}
 use native.Mathlib.Omega.{arith}
 use lib.Dec.{eqb}
@@ -14,8 +14,11 @@ use Rattle.board.proofs.Cells.{byte_is}
 use Rattle.legs.specs.Leg.{far, cell_at}
 use Rattle.walls.specs.Leg.{forward}
 use Rattle.walls.proofs.leg.Indices.{forward_fits, cell_next}
-use Rattle.edges.specs.Edges.{cell_on, index_on}
-use Rattle.edges.proofs.inner.Counting.{Lines, along_in, AtEdge}
+use Rattle.legs.specs.Pinched.{crosswise}
+use Rattle.legs.specs.Stops.{edges_stop}
+use Rattle.edges.specs.declared.Along.TheVariants.{Wall, Pinch}
+use Rattle.edges.specs.Edges.{cell_on, index_on, stop_after}
+use Rattle.edges.proofs.inner.Counting.{Lines, along_in, AtEdge, vertex_found, edge_found, edge_passed}
 
 -- ---- level or upright
 
@@ -51,6 +54,10 @@ stride_few false s = s.narrow
 pub record StepOf (b : Board) (level : Bool) (p q ahead back : ℕ) : Type 0 where
   pub ahead_is : ahead ≡ forward p q (cond level 1 b.width)
   pub back_is : back ≡ forward q p (cond level 1 b.width)
+
+pub step_of : {b : Board} {level : Bool} {p q along ahead back : ℕ} → along ≡ cond level 1 b.width → ahead ≡ forward p q along
+    → back ≡ forward q p along → StepOf b level p q ahead back
+step_of e ahead_is back_is = record { ahead_is = rw (← e) ahead_is; back_is = rw (← e) back_is }
 
 -- ---- along the leg
 
@@ -99,3 +106,23 @@ pub record AtCells (b : Board) (level : Bool) (c p q n low high u low-cell high-
   pub edge : AtEdge b level c p q n low high u passed-low passed-high
   pub low_at : OnLine b level c p q n low high low u low-cell
   pub high_at : OnLine b level c p q n low high high u high-cell
+
+-- and whether the vertex between the cells passed last and those two is pinched
+module _ {b : Board} {level : Bool} {c p q n low high u low-cell high-cell : ℕ} {passed-low passed-high : Bool}
+    (s : AtCells b level c p q n low high u low-cell high-cell passed-low passed-high) {pinch : Bool}
+    (asked : pinch ≡ crosswise passed-low (eqb (get_or b.cells low-cell 0) 1) passed-high (eqb (get_or b.cells high-cell 0) 1)) where
+  pub pinch_met : pinch ≡ true → stop_after level c p q (Pinch u) ≡ edges_stop b level c p q
+  pinch_met e =
+      vertex_found s.edge s.low_at.u_in (byte_read s.low_at) (byte_read s.high_at) (sym asked ∙ e)
+
+  module _ (e : pinch ≡ false) where
+    pub wall_met : (eqb (get_or b.cells low-cell 0) 1 && eqb (get_or b.cells high-cell 0) 1) ≡ true
+        → stop_after level c p q (Wall u) ≡ edges_stop b level c p q
+    wall_met f =
+        edge_found s.edge s.low_at.u_in (byte_read s.low_at) (byte_read s.high_at) (sym asked ∙ e) f
+
+    -- neither it nor the edge stops the leg
+    pub step_passed : (eqb (get_or b.cells low-cell 0) 1 && eqb (get_or b.cells high-cell 0) 1) ≡ false
+        → AtEdge b level c p q n low high (u + 1) (eqb (get_or b.cells low-cell 0) 1) (eqb (get_or b.cells high-cell 0) 1)
+    step_passed f =
+        edge_passed s.edge s.low_at.u_in (byte_read s.low_at) (byte_read s.high_at) (sym asked ∙ e) f

@@ -1,13 +1,9 @@
--- The walk along a leg's unit edges: what stops the leg at each step, and what the number says that the walk yields. Assumes nothing.
+-- The walk along a leg's unit edges: what stops the leg at each step, and what the walk meets says of it. Assumes nothing.
 use Prim.Native.Nat.{ℕ, zero, suc, ◌+◌, ◌-◌, ◌≤◌, ◌<◌, min}
-use mathlib.Core.Path.{◌≡◌, refl, sym, ◌∙◌}
-use mathlib.Core.Logic.{⊎_elim}
-use mathlib.Core.Bool.{Bool, true, false, ◌&&◌, cond, true≢false}
+use mathlib.Core.Path.{◌≡◌, refl, sym}
+use mathlib.Core.Bool.{Bool, true, false, ◌&&◌, cond}
 use native.Mathlib.Omega.{arith}
 use borrow.Author.Count.{below_more}
-use borrow.Author.Tests.{lt-ltb, le-ltb, eq-eqb, ne_eqb}
-use lib.Dec.{eqb}
-use Rattle.laws.proofs.Tests.{order}
 use Rattle.board.specs.Board.{Board}
 use Rattle.board.specs.Inner.{Sound}
 use Rattle.board.specs.Limits.{largest_side}
@@ -16,6 +12,7 @@ use Rattle.legs.specs.declared.Stop.TheVariants.{Clear}
 use Rattle.legs.specs.Pinched.{crosswise}
 use Rattle.legs.specs.Leg.{far, vertex_at, cell_at}
 use Rattle.legs.specs.Stops.{is_clear, vertex_stop, walled, edge_from, edge_stop, corner_stop, step_stop, edges_stop}
+use Rattle.edges.specs.declared.Along.TheVariants.{Nothing, Wall, Pinch}
 use Rattle.edges.specs.Edges.{cell_on, vertex_from, stop_after}
 use Rattle.legs.proofs.Axis.{axis_on}
 use Rattle.legs.proofs.Inside.{inside_level, inside_upright}
@@ -23,21 +20,9 @@ use Rattle.legs.proofs.Pinches.{pinched_level, pinched_upright}
 use Rattle.legs.proofs.First.{stop_stays, first_clear, first_at, edge_stops, first_corner}
 use Rattle.walls.proofs.walls.Beside.{row_wall_read, column_wall_read}
 
--- ---- the stops by their numbers
+-- ---- what is met
 
 module _ (level : Bool) (c p q : ℕ) where
-  pub after_edge : (u : ℕ) → u < far p q → stop_after level c p q u ≡ edge_from level c (vertex_at p q u) (vertex_at p q (u + 1))
-  unfolding stop_after
-  after_edge u l = rw (lt-ltb u (far p q) l)
-
-  pub after_all : (n : ℕ) → n ≡ far p q → stop_after level c p q n ≡ Clear
-  unfolding stop_after
-  after_all n e = rw (le-ltb n (far p q) (omega arith), eq-eqb n (far p q) e)
-
-  pub after_vertex : (steps : ℕ) → far p q < steps → stop_after level c p q steps ≡ vertex_from level c (vertex_at p q (steps - far p q))
-  unfolding stop_after
-  after_vertex steps l = rw (le-ltb steps (far p q) (omega arith), ne_eqb steps (far p q) (λ e. omega arith))
-
   vertex_not_clear : (k : ℕ) → is_clear (vertex_from level c k) ≡ false
   unfolding vertex_from
   vertex_not_clear k = go level
@@ -45,19 +30,6 @@ module _ (level : Bool) (c p q : ℕ) where
       go : (level : Bool) → is_clear (vertex_from level c k) ≡ false
       go true = refl
       go false = refl
-
-  -- only the leg's own length says clear
-  pub steps_clear : (steps : ℕ) → is_clear (stop_after level c p q steps) ≡ eqb steps (far p q)
-  steps_clear steps =
-      ⊎_elim
-      (λ (l : steps < far p q).
-      rw (after_edge steps l, ne_eqb steps (far p q) (λ e. omega arith)) (edge_stops level c (vertex_at p q steps) (vertex_at p q (steps + 1))))
-      (λ (g : far p q ≤ steps). ⊎_elim
-      (λ (l : far p q < steps).
-      rw (after_vertex steps l, ne_eqb steps (far p q) (λ e. omega arith)) (vertex_not_clear (vertex_at p q (steps - far p q))))
-      (λ (h : steps ≤ far p q). let e : steps ≡ far p q = omega arith in rw (after_all steps e, eq-eqb steps (far p q) e))
-      (order (far p q) steps))
-      (order steps (far p q))
 
 -- ---- the lines of cells along a leg of n steps, on both sides of it
 
@@ -69,6 +41,21 @@ pub record Lines (b : Board) (level : Bool) (c p q n low high : ℕ) : Type 0 wh
   pub n_is : n ≡ far p q
   pub low_is : low ≡ c - 1
   pub high_is : high ≡ min c (cond level b.height b.width - 1)
+
+-- as the walk has them from the calls that it begins with
+pub lines_from : {b : Board} {level : Bool} {c p q n low high across : ℕ} → Sound b → c ≤ cond level b.height b.width
+    → (p ≤ cond level b.width b.height) × (q ≤ cond level b.width b.height)
+    → n ≡ far p q → low ≡ c - 1 → across ≡ cond level b.height b.width → high ≡ min c (across - 1) → Lines b level c p q n low high
+lines_from sound c_on ends n_is low_is across_is high_is =
+    record {
+      sound = sound;
+      c_on = c_on;
+      p_on = ends.0;
+      q_on = ends.1;
+      n_is = n_is;
+      low_is = low_is;
+      high_is = rw (← across_is) high_is;
+    }
 
 -- there are some lines across, and few cells along
 pub lines_some : {b : Board} (level : Bool) → Sound b → 0 < cond level b.height b.width
@@ -143,11 +130,10 @@ edges_begun l =
 module _ {b : Board} {level : Bool} {c p q n low high u : ℕ} {passed-low passed-high : Bool}
     (s : AtEdge b level c p q n low high u passed-low passed-high) where
   -- the walk is at the leg's end
-  pub edges_done : u ≡ n → stop_after level c p q n ≡ edges_stop b level c p q
-  unfolding edges_stop
+  pub edges_done : u ≡ n → stop_after level c p q Nothing ≡ edges_stop b level c p q
+  unfolding edges_stop stop_after
   edges_done e =
-      after_all level c p q n s.lines.n_is
-      ∙ sym (first_clear (far p q) _ (λ k h. s.past k (omega (arith, s.lines.n_is))))
+      sym (first_clear (far p q) _ (λ k h. s.past k (omega (arith, s.lines.n_is))))
 
   -- or it reads the cells on both sides of the next edge
   module _ (l : u < n) {at_low at_high : Bool} (low_read : at_low ≡ cell_on b level low (cell_at p q u)) (high_read : at_high ≡ cell_on b level high (cell_at p q u)) where
@@ -178,22 +164,17 @@ module _ {b : Board} {level : Bool} {c p q n low high u : ℕ} {passed-low passe
     unfolding edge_stop
     edge_read = rw (low_read, high_read, walled_is b c p q n low high u level s.lines l)
 
-    pub vertex_found : pinch ≡ true → stop_after level c p q (n + u) ≡ edges_stop b level c p q
-    unfolding edges_stop step_stop
+    pub vertex_found : pinch ≡ true → stop_after level c p q (Pinch u) ≡ edges_stop b level c p q
+    unfolding edges_stop step_stop stop_after
     vertex_found e =
-        let some : 0 < u =
-        ⊎_elim (λ (h : u < 1). absurd (true≢false (sym e ∙ begun_unpinched (omega arith)))) (λ (g : 1 ≤ u). g) (order u 1) in
-        let steps : (n + u) - far p q ≡ u = omega (arith, s.lines.n_is) in
-        after_vertex level c p q (n + u) (omega (arith, s.lines.n_is)) ∙ rw steps
-        (sym (first_at (far p q) _ u here (omega (arith, s.lines.n_is)) s.past
+        sym (first_at (far p q) _ u here (omega (arith, s.lines.n_is)) s.past
         (rw (corner_read, e) (stop_stays here (edge_stop b level c p q u) (vertex_not_clear level c p q (vertex_at p q u))))
-        (vertex_not_clear level c p q (vertex_at p q u))))
+        (vertex_not_clear level c p q (vertex_at p q u)))
 
-    pub edge_found : pinch ≡ false → (at_low && at_high) ≡ true → stop_after level c p q u ≡ edges_stop b level c p q
-    unfolding edges_stop step_stop
+    pub edge_found : pinch ≡ false → (at_low && at_high) ≡ true → stop_after level c p q (Wall u) ≡ edges_stop b level c p q
+    unfolding edges_stop step_stop stop_after
     edge_found e f =
-        after_edge level c p q u (omega (arith, s.lines.n_is))
-        ∙ sym (first_at (far p q) _ u edge (omega (arith, s.lines.n_is)) s.past (rw (corner_read, e, edge_read, f))
+        sym (first_at (far p q) _ u edge (omega (arith, s.lines.n_is)) s.past (rw (corner_read, e, edge_read, f))
         (edge_stops level c (vertex_at p q u) (vertex_at p q (u + 1))))
 
     pub edge_passed : pinch ≡ false → (at_low && at_high) ≡ false → AtEdge b level c p q n low high (u + 1) at_low at_high

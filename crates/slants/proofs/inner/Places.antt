@@ -2,14 +2,12 @@
 -- it, its byte and its index. Assumes nothing.
 use Prim.Native.Nat.{ℕ, ◌+◌, ◌*◌, ◌-◌, ◌/◌, ◌%◌, ◌≤◌, ◌<◌}
 use mathlib.Core.Path.{◌≡◌, refl, sym, ap₂, ◌∙◌, subst₂}
-use mathlib.Core.Logic.{⊎_elim}
 use mathlib.Core.Bool.{Bool, true, false}
 use native.Mathlib.Nat.{le_trans, mul-le-mul, mul-add-mod_self_right, mod-eq_of_lt, div-eq_of_lt-le}
 use native.Mathlib.Omega.{arith}
-use borrow.Author.Tests.{lt-ltb, le-ltb, eq-eqb, ne_eqb}
-use lib.Dec.{eqb}
+use borrow.Author.Tests.{eq-eqb, ne_eqb}
 use lib.ListN.{length, get_or}
-use Rattle.laws.proofs.Tests.{order, false_of, and_false}
+use Rattle.laws.proofs.Tests.{false_of, and_false}
 use Rattle.board.specs.Limits.{largest_side, most_vertices}
 use Rattle.board.specs.Board.{Board, blocked}
 use Rattle.board.specs.Inner.{Sound, OnBoard}
@@ -17,11 +15,12 @@ use Rattle.board.proofs.Numbers.{cell_index}
 use Rattle.board.proofs.Cells.{byte_is}
 use Rattle.legs.specs.declared.Stop.{Stop}
 use Rattle.legs.specs.declared.Stop.TheVariants.{Clear, Cell, Vertex}
+use Rattle.slants.specs.declared.Across.TheVariants.{Blocked, Pinch}
 use Rattle.slants.specs.declared.inner.Steps.{Steps}
 use Rattle.legs.specs.Pinched.{pinched}
 use Rattle.legs.specs.Sight.{crossed}
 use Rattle.legs.specs.Leg.{far, vertex_at, cell_at}
-use Rattle.legs.specs.Stops.{is_clear, vertex_stop, cell_stop, place_stop}
+use Rattle.legs.specs.Stops.{vertex_stop, cell_stop, place_stop}
 use Rattle.walls.specs.Leg.{forward}
 use Rattle.slants.specs.Walk.{corner_of, stop_at, pinch, StepsOf}
 use Rattle.legs.specs.Inner.{EndsOn}
@@ -47,28 +46,9 @@ module _ (b : Board) (x y i : ℕ) (hx : x < b.width) (hy : y < b.height) (e : i
   row_is : i / b.width ≡ y
   row_is = div-eq_of_lt-le b.width (omega arith) (omega arith)
 
-  pub stop_at_cell : (ax ay bx by : ℕ) → Sound b → stop_at (length b.cells) b.width ax ay bx by i ≡ Cell x y
+  pub stop_at_cell : (ax ay bx by : ℕ) → stop_at b.width ax ay bx by (Blocked i) ≡ Cell x y
   unfolding stop_at
-  stop_at_cell ax ay bx by s =
-      let below : i < length b.cells = omega (arith, s.full, cell_index b.width b.height x y hx hy) in
-      rw (lt-ltb i (length b.cells) below) (ap₂ Cell column_is row_is)
-
--- ---- the number that stands for none
-
-module _ (count width ax ay bx by : ℕ) where
-  pub number_none : stop_at count width ax ay bx by count ≡ Clear
-  unfolding stop_at
-  number_none = rw (le-ltb count count (omega arith), eq-eqb count count refl)
-
-  pub number_clear : (number : ℕ) → is_clear (stop_at count width ax ay bx by number) ≡ eqb number count
-  unfolding stop_at corner_of
-  number_clear number =
-      ⊎_elim (λ (l : number < count). rw (lt-ltb number count l, ne_eqb number count (λ e. omega arith)))
-      (λ (g : count ≤ number). ⊎_elim
-      (λ (l : count < number). rw (le-ltb number count g, ne_eqb number count (λ e. omega arith)))
-      (λ (h : number ≤ count). let e : number ≡ count = omega arith in rw (le-ltb number count g, eq-eqb number count e))
-      (order count number))
-      (order number count)
+  stop_at_cell ax ay bx by = ap₂ Cell column_is row_is
 
 -- ---- the leg and its places
 
@@ -101,6 +81,20 @@ module _ (b : Board) (ax ay bx by : ℕ) where
     pub n_some : 0 < n
     pub m_some : 0 < m
     pub steps : StepsOf b.width ax ay bx by step
+
+-- as the walk has it from the calls that it begins with
+pub slanted_from : {b : Board} {ax ay bx by n m : ℕ} {step : Steps} → Sound b → EndsOn b ax ay bx by → n ≡ far ax bx → m ≡ far ay by
+    → (0 < far ax bx) × (0 < far ay by) → StepsOf b.width ax ay bx by step → Slanted b ax ay bx by n m step
+slanted_from sound ends n_is m_is some steps =
+    record {
+      sound = sound;
+      ends = ends;
+      n_is = n_is;
+      m_is = m_is;
+      n_some = omega (arith, n_is, some);
+      m_some = omega (arith, m_is, some);
+      steps = steps;
+    }
 
 module _ {b : Board} {ax ay bx by n m : ℕ} {step : Steps} (l : Slanted b ax ay bx by n m step) where
   -- ---- what a place of the leg does to it
@@ -210,16 +204,14 @@ module _ {b : Board} {ax ay bx by n m : ℕ} {step : Steps} (l : Slanted b ax ay
 
   -- and is told by the cell behind it
   pub stop_at_corner : (u v next : ℕ) → u < n → v < m → next ≡ place_at b ax ay bx by u v
-      → stop_at (length b.cells) b.width ax ay bx by (length b.cells + 1 + next) ≡ Vertex (vertex_at ax bx u) (vertex_at ay by v)
+      → stop_at b.width ax ay bx by (Pinch next) ≡ Vertex (vertex_at ax bx u) (vertex_at ay by v)
   unfolding stop_at corner_of
   stop_at_corner u v next hu hv e =
-      let count : ℕ = length b.cells in
-      let back : (count + 1 + next) - (count + 1) ≡ next = omega arith in
       let x : next % b.width + forward bx ax 1 ≡ vertex_at ax bx u =
       rw (column_is b _ _ next (x_in u hu) (y_in v hv) e) (omega (arith, cell_step ax bx 1 u (omega (arith, l.n_is)))) in
       let y : next / b.width + forward by ay 1 ≡ vertex_at ay by v =
       rw (row_is b _ _ next (x_in u hu) (y_in v hv) e) (omega (arith, cell_step ay by 1 v (omega (arith, l.m_is)))) in
-      rw (le-ltb (count + 1 + next) count (omega arith), ne_eqb (count + 1 + next) count (λ f. omega arith), back) (ap₂ Vertex x y)
+      ap₂ Vertex x y
 
   -- ---- the sums stay small
 
@@ -239,9 +231,9 @@ module _ {b : Board} {ax ay bx by n m : ℕ} {step : Steps} (l : Slanted b ax ay
         omega (arith, few, s.full, s.narrow, place_in u v hu hv, l.steps.down_is, forward_most ay by b.width),
       )
 
-  -- so does the number of what stops the leg
-  pub count_small : length b.cells + length b.cells < 4 * most_vertices
-  count_small = let s = l.sound in omega (arith, mul-le-mul s.narrow s.low, s.full)
+  -- so does the index of a cell
+  pub cell_small : {i : ℕ} → i < length b.cells → i < 4 * most_vertices
+  cell_small h = let s = l.sound in omega (arith, mul-le-mul s.narrow s.low, s.full, h)
 
   -- and so does the index of a vertex, as if it were a cell's
   pub corner_small : (x y : ℕ) → OnBoard b x y → y * b.width + x < 4 * most_vertices

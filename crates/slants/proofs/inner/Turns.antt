@@ -11,6 +11,7 @@ use Rattle.laws.proofs.Tests.{order}
 use Rattle.board.specs.Limits.{most_vertices}
 use Rattle.board.specs.Board.{Board, blocked}
 use Rattle.legs.specs.declared.Stop.TheVariants.{Clear}
+use Rattle.slants.specs.declared.Across.TheVariants.{Nothing, Blocked, Pinch}
 use Rattle.slants.specs.declared.inner.Steps.{Steps}
 use Rattle.legs.specs.Pinched.{pinched}
 use Rattle.legs.specs.Leg.{far, vertex_at, cell_at}
@@ -18,7 +19,7 @@ use Rattle.legs.specs.Stops.{place_stop, column_stop, cells_stop}
 use Rattle.slants.specs.Walk.{stop_at, pinch}
 use Rattle.legs.proofs.Crossing.{Crosses}
 use Rattle.legs.proofs.First.{first_clear, first_at, unpinched_clear, start_clear}
-use Rattle.slants.proofs.inner.Places.{byte_blocked, byte_free, stop_at_cell, number_none, vertex_there, place_at, come, Slanted, not_crossed, not_blocked, not_through, both_clear, hit_cell, hit_vertex, x_in, y_in, place_in, row_step, column_step, start_place, end_place, pinch_is, stop_at_corner, place_small, come_to}
+use Rattle.slants.proofs.inner.Places.{byte_blocked, byte_free, stop_at_cell, vertex_there, place_at, come, Slanted, not_crossed, not_blocked, not_through, both_clear, hit_cell, hit_vertex, x_in, y_in, place_in, row_step, column_step, start_place, end_place, pinch_is, stop_at_corner, place_small, come_to}
 
 -- ---- what is known at each place of the walk
 
@@ -117,14 +118,14 @@ module _ {b : Board} {ax ay bx by n m : ℕ} {step : Steps} {u v ahead cell : �
 
     -- the cell is blocked
     pub walk_stopped : get_or b.cells cell 0 ≡ 1
-        → stop_at (length b.cells) b.width ax ay bx by cell ≡ cells_stop b ax ay bx by
+        → stop_at b.width ax ay bx by (Blocked cell) ≡ cells_stop b ax ay bx by
     unfolding cells_stop column_stop
     walk_stopped e =
         let l = c.leg in
         let hx = x_in l u c.u_in in
         let hy = y_in l v c.v_in in
         let q : blocked b x y ≡ true = byte_blocked b x y cell hx hy c.cell_is e in
-        stop_at_cell b x y cell hx hy c.cell_is ax ay bx by l.sound
+        stop_at_cell b x y cell hx hy c.cell_is ax ay bx by
         ∙ sym (first_at (far ax bx) _ u _ (omega (arith, c.u_in, l.n_is)) c.past
         (first_at (far ay by) _ v _ (omega (arith, c.v_in, l.m_is)) c.before
         (hit_cell l u v c.u_in c.v_in c.crosses q c.vertex_clear) refl) refl)
@@ -214,9 +215,12 @@ module _ {b : Board} {ax ay bx by n m : ℕ} {step : Steps} {u v ahead cell : �
           }
 
       -- by a corner
-      module _ (e : ahead ≡ m) (h : (u + 1 < n) × (v + 1 < m)) (beside below next : ℕ)
-          (beside-is : beside ≡ cell + step.right - step.left) (below-is : below ≡ cell + step.down - step.up)
+      module _ (e : ahead ≡ m) {last : ℕ} (last_is : last ≡ by * b.width + bx - step.down - step.right) (open-end : cell ≡ last → ⊥)
+          {beside below next : ℕ} (beside-is : beside ≡ cell + step.right - step.left) (below-is : below ≡ cell + step.down - step.up)
           (next_is : next ≡ beside + step.down - step.up) where
+        h : (u + 1 < n) × (v + 1 < m)
+        h = corner e last last_is open-end
+
         beside_place : beside ≡ place_at b ax ay bx by (u + 1) v
         beside_place = omega (arith, c.cell_is, column_step c.leg u v h.0)
 
@@ -273,7 +277,7 @@ module _ {b : Board} {ax ay bx by n m : ℕ} {step : Steps} {u v ahead cell : �
             (not_crossed l (u + 1) k h.0 (omega arith) (λ x. omega (arith, x.0, w, c.ahead_is)))
 
         pub walk_pinched : pinch b.cells beside below next ≡ true
-            → stop_at (length b.cells) b.width ax ay bx by (length b.cells + 1 + next) ≡ cells_stop b ax ay bx by
+            → stop_at b.width ax ay bx by (Pinch next) ≡ cells_stop b ax ay bx by
         unfolding cells_stop column_stop
         walk_pinched p =
             let l = c.leg in
@@ -285,11 +289,10 @@ module _ {b : Board} {ax ay bx by n m : ℕ} {step : Steps} {u v ahead cell : �
 
       -- or at the leg's end
       pub walk_ended : m ≤ ahead → (last : ℕ) → last ≡ by * b.width + bx - step.down - step.right → cell ≡ last
-          → stop_at (length b.cells) b.width ax ay bx by (length b.cells) ≡ cells_stop b ax ay bx by
-      unfolding cells_stop
+          → stop_at b.width ax ay bx by Nothing ≡ cells_stop b ax ay bx by
+      unfolding cells_stop stop_at
       walk_ended h last last_is f =
-          number_none (length b.cells) b.width ax ay bx by
-          ∙ sym (first_clear (far ax bx) _ (λ k l. columns_clear h k (omega (arith, last_column last last_is f, c.leg.n_is))))
+          sym (first_clear (far ax bx) _ (λ k l. columns_clear h k (omega (arith, last_column last last_is f, c.leg.n_is))))
 
 module _ {b : Board} {ax ay bx by n m : ℕ} {step : Steps} {u v ahead cell : ℕ} (c : ColumnLeft b ax ay bx by n m step u v ahead cell) where
   pub ahead_fits : m ≤ ahead

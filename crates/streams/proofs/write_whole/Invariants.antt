@@ -3,8 +3,8 @@ use Rattle.std.proofs.Common.{length, ◌-◌, ◌+◌, ◌≤◌, ◌*◌}
 use Rattle.streams.specs.Tries.{most_tries}
 use Rattle.streams.proofs.write_whole.Given as goal
 
-abbrev pub invariant-loop-done : goal.invariant-loop-done
-invariant-loop-done g l = (l.done ≤ length l.bytes) × (l.tries ≤ most_tries)
+abbrev pub invariant-loop-rest : goal.invariant-loop-rest
+invariant-loop-rest g l = l.tries ≤ most_tries
 
-abbrev pub decreases-loop-done : goal.decreases-loop-done
-decreases-loop-done g l = (length l.bytes - l.done) * (most_tries + 1) + (most_tries - l.tries)
+abbrev pub decreases-loop-rest : goal.decreases-loop-rest
+decreases-loop-rest g l = length l.rest * (most_tries + 1) + (most_tries - l.tries)

@@ -1,46 +1,16 @@
-use mathlib.Core.Path.{◌≡◌, ◌∙◌}
-use lib.IntN.{ℤ}
-use borrow.Author.Rules.{rules}
-use Rattle.board.specs.Handed.{passes}
-use Rattle.board.proofs.Verdicts.{accepted, refused_row, refusal_handed}
-use Rattle.spans.specs.Legs.{step, vertex_rows}
-use Rattle.direction.specs.Answers.{no_direction, aim_row, direction_between_row}
-use Rattle.spans.proofs.Legs.{OnLargest, small_both, vertices_on}
+use Rattle.std.proofs.lemmas.Result.{err_from_is_err_and}
+use Rattle.board.proofs.Verdicts.{refusal_handed}
+use Rattle.direction.specs.Answers.{no_direction, direction_between_row}
 use Rattle.direction.proofs.Direction.between.Goals as goal
 
-pass : (c : goal.In-Accepted) → let a = c.args in vertex_rows a.ax a.ay a.bx a.by ≡ passes
-pass c = accepted c.in-Accepted.is c.check_vertices.ensures
-
--- both vertices are on the largest board
-on : (c : goal.In-Accepted) → let a = c.args in OnLargest a.ax a.ay × OnLargest a.bx a.by
-on c = vertices_on _ _ _ _ (pass c)
-
-pub difference-requires : goal.difference-requires
-difference-requires c = let o = on c in search rules
-
-pass_2 : (c : goal.After-difference) → let a = c.args in vertex_rows a.ax a.ay a.bx a.by ≡ passes
-pass_2 c = accepted c.in-Accepted.is c.check_vertices.ensures
-
--- both vertices are on the largest board
-on_2 : (c : goal.After-difference) → let a = c.args in OnLargest a.ax a.ay × OnLargest a.bx a.by
-on_2 c = vertices_on _ _ _ _ (pass_2 c)
-
-pub difference-requires-in-Accepted : goal.difference-requires-in-Accepted
-difference-requires-in-Accepted c = let o = on_2 c in search rules
-
-pass_3 : (c : goal.After-aim) → let a = c.args in vertex_rows a.ax a.ay a.bx a.by ≡ passes
-pass_3 c = accepted c.in-Accepted.is c.check_vertices.ensures
-
-pub returns-in-Accepted : goal.returns-in-Accepted
+pub returns-in_err-between : goal.returns-in_err-between
 unfolding direction_between_row
-returns-in-Accepted c =
-    let a = c.args in
-    let dx = c.difference.ensures in
-    let dy = c.difference-in-Accepted.ensures in
-    let across : c.difference.result ≡ step a.ax a.bx = dx.value in
-    let down : c.difference-in-Accepted.result ≡ step a.ay a.by = dy.value in
-    rw (pass_3 c) (c.aim.ensures ∙ small_both (λ (dx dy : ℤ). aim_row dx dy) (step a.ax a.bx) (step a.ay a.by) across down dx.small dy.small)
+returns-in_err-between c =
+    let p = err_from_is_err_and c.from_residual.result c.from_residual.ensures.1 in
+    rw (p.1, p.2) (refusal_handed no_direction _ _ c.in_err-between.ensures.rows)
 
-pub returns-in-Refused : goal.returns-in-Refused
+pub returns : goal.returns
 unfolding direction_between_row
-returns-in-Refused c = refusal_handed no_direction c.in-Refused.why _ (refused_row c.in-Refused.is c.check_vertices.ensures)
+returns c =
+    let s = c.in_ok-between.ensures in
+    rw (← s.rows, ← s.value.0, ← s.value.1) c.aim.ensures

@@ -1,28 +1,23 @@
 use mathlib.Core.Path.{sym, ◌∙◌}
 use native.Mathlib.Omega.{arith}
-use Rattle.kinds.proofs.Says.{said}
+use Rattle.kinds.proofs.Says.{said_so, said_fault}
 use Rattle.faults.proofs.Judging.{row_unknown, row_unused, row_board, row_keepout, row_net, nets_few}
 use Rattle.faults.proofs.inner.judge.Goals as goal
 
 pub net_step-requires : goal.net_step-requires
 net_step-requires c = omega (arith, nets_few _ _ c.requires.past_value)
 
-pub returns-in-Unknown : goal.returns-in-Unknown
-returns-in-Unknown c = sym (row_unknown _ _ (said _ _ (sym c.in-Unknown.is ∙ c.record_at.ensures)))
+pub returns-in-Ok-Board : goal.returns-in-Ok-Board
+returns-in-Ok-Board c = c.board_step.ensures ∙ sym (row_board _ _ (said_so _ _ c.in-Ok-Board.field-0-is c.in-Ok-Board.ensures))
 
-pub returns-in-Unused : goal.returns-in-Unused
-returns-in-Unused c = sym (row_unused _ _ (said _ _ (sym c.in-Unused.is ∙ c.record_at.ensures)))
+pub returns-in-Ok-Keepout : goal.returns-in-Ok-Keepout
+returns-in-Ok-Keepout c = c.keepout_step.ensures ∙ sym (row_keepout _ _ c.requires.past_value (said_so _ _ c.in-Ok-Keepout.field-0-is c.in-Ok-Keepout.ensures))
 
-pub returns-in-Board : goal.returns-in-Board
-returns-in-Board c =
-    c.board_step.ensures ∙ sym (row_board _ _ (said _ _ (sym c.in-Board.is ∙ c.record_at.ensures)))
+pub returns-in-Ok-Net : goal.returns-in-Ok-Net
+returns-in-Ok-Net c = c.net_step.ensures ∙ sym (row_net _ _ c.requires.past_value (said_so _ _ c.in-Ok-Net.field-0-is c.in-Ok-Net.ensures))
 
-pub returns-in-Keepout : goal.returns-in-Keepout
-returns-in-Keepout c =
-    let this = said _ _ (sym c.in-Keepout.is ∙ c.record_at.ensures) in
-    rw (row_keepout _ _ c.requires.past_value this) c.keepout_step.ensures
+pub returns-in-Err-Unknown : goal.returns-in-Err-Unknown
+returns-in-Err-Unknown c = sym (row_unknown _ _ (said_fault _ _ c.in-Err-Unknown.field-0-is c.in-Err-Unknown.ensures))
 
-pub returns-in-Net : goal.returns-in-Net
-returns-in-Net c =
-    let this = said _ _ (sym c.in-Net.is ∙ c.record_at.ensures) in
-    rw (row_net _ _ c.requires.past_value this) c.net_step.ensures
+pub returns-in-Err-Unused : goal.returns-in-Err-Unused
+returns-in-Err-Unused c = rw c.in-Err-Unused.k-is (sym (row_unused _ _ (said_fault _ _ c.in-Err-Unused.field-0-is c.in-Err-Unused.ensures)))

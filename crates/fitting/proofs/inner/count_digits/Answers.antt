@@ -1,18 +1,15 @@
-use Prim.Native.Nat.{◌≤◌, ◌<◌}
 use native.Mathlib.Omega.{arith}
-use Rattle.lines.proofs.Decimal.{count_one, count_more, few_digits}
+use Rattle.lines.proofs.Decimal.{count_one, count_power}
 use Rattle.fitting.proofs.inner.count_digits.Goals as goal
 
-pub loop-rest-init : goal.loop-rest-init
-loop-rest-init c = (omega arith, few_digits c.args.n (omega arith))
+pub returns-in-Some : goal.returns-in-Some
+returns-in-Some c =
+    let found = c.in-Some.ensures in
+    let digits = count_power c.in-Some.tens c.args.n found.power_le found.next_power_gt in
+    record { count = omega (arith, digits); few = omega (arith, found.bound) }
 
-pub loop-rest-preserved : goal.loop-rest-preserved
-loop-rest-preserved c =
-    let l : 10 ≤ c.loop-rest.rest = omega arith in
-    (omega (arith, count_more c.loop-rest.rest l), omega arith)
-
-pub returns : goal.returns
-returns c =
-    let s : c.loop-rest.rest < 10 = omega arith in
-    let one = count_one c.loop-rest.rest s in
-    record { count = omega (arith, one); few = omega (arith, one) }
+-- only 0 has no logarithm
+pub returns-in-None : goal.returns-in-None
+returns-in-None c =
+    let zero = count_one c.args.n (omega (arith, c.in-None.ensures.none)) in
+    record { count = omega (arith, zero); few = omega arith }

@@ -10,14 +10,14 @@ use Rattle.fitting.proofs.inner.path_fits.Goals as goal
 pub returns-then-left-bytes : goal.returns-then-left-bytes
 returns-then-left-bytes c =
     let a = c.args in
-    let l = c.loop-i in
+    let l = c.loop-v in
     let all : ℕ = length (spaced (vertex_fields a.width a.path.now)) in
-    let within = within_count a.width a.path.now l.i (omega arith) in
-    sym (lt-leb (a.words + all) a.room (omega (arith, within, c.count_vertex-bytes.ensures.count, l.invariant.0)))
+    let within = within_count a.width a.path.now l.v-index (omega arith) in
+    sym (lt-leb (a.words + all) a.room (omega (arith, within, c.count_vertex-bytes.ensures.count, l.invariant)))
 
-pub loop-i-preserved : goal.loop-i-preserved
-loop-i-preserved c =
+pub loop-v-preserved : goal.loop-v-preserved
+loop-v-preserved c =
     let a = c.args in
-    let l = c.loop-i in
-    let more = more_count a.width a.path.now l.i (omega arith) in
-    (omega (arith, more, c.count_vertex-bytes.ensures.count, l.invariant.0), omega arith)
+    let l = c.loop-v in
+    let more = more_count a.width a.path.now l.v-index (omega arith) in
+    omega (arith, more, c.count_vertex-bytes.ensures.count, l.invariant)

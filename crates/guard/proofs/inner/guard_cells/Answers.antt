@@ -1,8 +1,6 @@
-use Rattle.board.specs.Board.{board}
+use Rattle.board.specs.Checked.{board_of}
 use Rattle.guard.proofs.Shut.{guarded}
 use Rattle.guard.proofs.inner.guard_cells.Goals as goal
 
 pub returns : goal.returns
-returns c =
-    let a = c.args in
-    guarded (board a.cells.now a.width a.height) c.requires.all_shut c.copy_rows.ensures c.make_bits.ensures
+returns c = guarded (board_of c.args.board.now) c.requires c.copy_rows.ensures c.make_bits.ensures

@@ -1,10 +1,6 @@
 -- `guard::inner::make_bits` has made as many bits as it has come by.
-use Prim.Native.Nat.{◌-◌, ◌≤◌}
 use Rattle.guard.specs.Copying.{Bits}
 use Rattle.guard.proofs.inner.make_bits.Given as goal
 
 abbrev pub invariant-loop-i : goal.invariant-loop-i
-invariant-loop-i l = (l.i ≤ l.n) × Bits l.i l.initial.guard l.guard
-
-abbrev pub decreases-loop-i : goal.decreases-loop-i
-decreases-loop-i l = l.n - l.i
+invariant-loop-i l = Bits l.i l.initial.guard l.guard

@@ -2,7 +2,7 @@
 use mathlib.Core.Path.{◌≡◌}
 use Prim.Native.Nat.{◌-◌, ◌≤◌}
 use lib.ListN.{length}
-use Rattle.board.specs.Board.{board}
+use Rattle.board.specs.Checked.{board_of}
 use Rattle.board.specs.Handed.{passes}
 use Rattle.records.specs.Records.{in_order}
 use Rattle.tracks.specs.Tracks.{routes_in}
@@ -13,7 +13,7 @@ use Rattle.judge.proofs.inner.judge_nets.Given as goal
 
 abbrev pub invariant-loop-index : goal.invariant-loop-index
 invariant-loop-index l =
-    (l.index ≤ l.nets) × OnJob l.job l.file l.cells l.width l.height l.nets × Room (board l.cells l.width l.height) (searching l.initial.g l.initial.parents l.initial.marks l.initial.legs)
+    (l.index ≤ l.nets) × OnJob l.job l.file l.board.cells.now l.board.width l.board.height l.nets × Room (board_of l.board) (searching l.initial.g l.initial.parents l.initial.marks l.initial.legs)
     × (length l.g ≡ length l.initial.g) × (length l.parents ≡ length l.initial.parents) × (length l.marks ≡ length l.initial.marks) × (length l.legs ≡ length l.initial.legs)
     × (in_order l.index (net_row l.job (routes_in l.file)) ≡ passes)
     × (searching l.g l.parents l.marks l.legs ≡ after_nets l.job (routes_in l.file) l.index (searching l.initial.g l.initial.parents l.initial.marks l.initial.legs))

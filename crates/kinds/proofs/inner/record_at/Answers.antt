@@ -1,52 +1,23 @@
-use mathlib.Core.Path.{◌≡◌}
-use mathlib.Core.Bool.{true}
-use borrow.Author.Tests.{not-true, not-false}
-use Rattle.kinds.proofs.Says.{is_known, Neat, says_unknown, says_unused, is_neat, says_board, says_keepout, says_net}
+use Rattle.std.proofs.lemmas.Result.{err_from_is_err_and}
+use Rattle.kinds.proofs.Says.{says_unknown, says_unused, says_board, says_keepout, says_net}
 use Rattle.kinds.proofs.inner.record_at.Goals as goal
 
--- where the type was found known
-abbrev read : goal.Then-not-known → goal.Then-not-known
-read c = c
+pub returns-in_err-kind : goal.returns-in_err-kind
+returns-in_err-kind c =
+    let p = err_from_is_err_and c.from_residual.result c.from_residual.ensures.1 in
+    rw (p.1, p.2) (says_unknown _ _ c.byte_of.ensures c.in_err-kind.ensures)
 
-pub returns-then-not-known : goal.returns-then-not-known
-returns-then-not-known c =
-    says_unknown _ _ c.byte_of-kind.ensures c.stray_byte-stray.ensures (not-true (is_known c.byte_of-kind.result) c.if-not-known.true-raw)
+pub returns-in-Some : goal.returns-in-Some
+returns-in-Some c = says_unused _ _ c.byte_of.ensures c.in_ok-kind.ensures c.in-Some.ensures
 
-known : (c : goal.Then-stray-lt-RECORD) → is_known c.byte_of-kind.result ≡ true
-known c = not-false (is_known c.byte_of-kind.result) c.if-not-known.false-raw
+pub returns-in-Board : goal.returns-in-Board
+returns-in-Board c =
+    says_board _ _ c.byte_of.ensures c.in_ok-kind.ensures c.in_default.ensures c.in-Board.is c.coordinate_of.ensures c.coordinate_of-in-Board.ensures
 
-pub returns-then-stray-lt-RECORD : goal.returns-then-stray-lt-RECORD
-returns-then-stray-lt-RECORD c =
-    says_unused _ _ c.byte_of-kind.ensures c.stray_byte-stray.ensures (known c) c.if-stray-lt-RECORD.true
+pub returns-in-Keepout : goal.returns-in-Keepout
+returns-in-Keepout c =
+    says_keepout _ _ c.byte_of.ensures c.in_ok-kind.ensures c.in_default.ensures c.in-Keepout.is c.rectangle_at.ensures
 
-known_2 : (c : goal.Then-kind-eq-BOARD) → is_known c.byte_of-kind.result ≡ true
-known_2 c = not-false (is_known c.byte_of-kind.result) c.if-not-known.false-raw
-
-neat : (c : goal.Then-kind-eq-BOARD) → (let a = c.args in Neat a.job.now a.i c.byte_of-kind.result)
-neat c = is_neat _ _ c.byte_of-kind.ensures c.stray_byte-stray.ensures (known_2 c) c.if-stray-lt-RECORD.false
-
-pub returns-then-kind-eq-BOARD : goal.returns-then-kind-eq-BOARD
-returns-then-kind-eq-BOARD c =
-    says_board (neat c) c.if-kind-eq-BOARD.true c.coordinate_of-x.ensures c.coordinate_of-y.ensures
-
-known_3 : (c : goal.Then-kind-eq-KEEPOUT) → is_known c.byte_of-kind.result ≡ true
-known_3 c = not-false (is_known c.byte_of-kind.result) c.if-not-known.false-raw
-
-neat_2 : (c : goal.Then-kind-eq-KEEPOUT) → (let a = c.args in Neat a.job.now a.i c.byte_of-kind.result)
-neat_2 c = is_neat _ _ c.byte_of-kind.ensures c.stray_byte-stray.ensures (known_3 c) c.if-stray-lt-RECORD.false
-
-pub returns-then-kind-eq-KEEPOUT : goal.returns-then-kind-eq-KEEPOUT
-returns-then-kind-eq-KEEPOUT c =
-    says_keepout (neat_2 c) c.if-kind-eq-KEEPOUT.true c.coordinate_of-x.ensures c.coordinate_of-y.ensures
-    c.coordinate_of-to_x.ensures c.coordinate_of-to_y.ensures
-
-known_4 : (c : goal.Else-kind-eq-KEEPOUT) → is_known c.byte_of-kind.result ≡ true
-known_4 c = not-false (is_known c.byte_of-kind.result) c.if-not-known.false-raw
-
-neat_3 : (c : goal.Else-kind-eq-KEEPOUT) → (let a = c.args in Neat a.job.now a.i c.byte_of-kind.result)
-neat_3 c = is_neat _ _ c.byte_of-kind.ensures c.stray_byte-stray.ensures (known_4 c) c.if-stray-lt-RECORD.false
-
-pub returns : goal.returns
-returns c =
-    says_net (neat_3 c) c.if-kind-eq-BOARD.false c.if-kind-eq-KEEPOUT.false c.byte_of-number.ensures
-    c.coordinate_of-x.ensures c.coordinate_of-y.ensures c.coordinate_of-to_x.ensures c.coordinate_of-to_y.ensures
+pub returns-in-Net : goal.returns-in-Net
+returns-in-Net c =
+    says_net _ _ c.byte_of.ensures c.in_ok-kind.ensures c.in_default.ensures c.in-Net.is c.net_at.ensures

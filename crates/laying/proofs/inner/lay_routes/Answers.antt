@@ -1,47 +1,60 @@
-use mathlib.Core.Path.{refl, ap}
-use Prim.Native.Nat.{ℕ, ◌+◌, ◌<◌}
+use mathlib.Core.Path.{sym, ap, ◌∙◌}
+use Prim.Native.Nat.{ℕ, ◌+◌}
 use native.Mathlib.Omega.{arith}
-use lib.ListN.{length}
-use Rattle.tracks.specs.Layout.{Slices, slices}
-use Rattle.laying.proofs.Written.{laying_none, laying_more, laying_room, laying_kept, points_within}
+use Rattle.std.proofs.lemmas.List.{length_push}
+use Rattle.std.proofs.lemmas.Slice.Zip.{zip_turn, zip_end}
+use Rattle.tracks.specs.Inner.{records_for}
+use Rattle.laying.proofs.Written.{laying_none, laying_more, laying_room, laying_all, points_fit, cut_length, points_cut}
 use Rattle.laying.proofs.inner.lay_routes.Goals as goal
 
-pub loop-k-init : goal.loop-k-init
-loop-k-init c = (omega arith, refl, laying_none _ _)
+pub loop-net-init : goal.loop-net-init
+loop-net-init c = (omega arith, laying_none _ _)
 
-abbrev given : goal.After-lay_net-arg-1 → Slices
-given c = let a = c.args in slices a.nets.now a.counts.now a.xs.now a.ys.now
+pub overflow_add-end : goal.overflow_add-end
+overflow_add-end c =
+    let a = c.args in
+    let l = c.loop-net in
+    let t = zip_turn a.nets.now a.counts.now l.yielded c.into_iter-net-iterator.result l.net-iterator c.next.new.self c.next.result (cc) (cc) l.yielded_by _ c.in-Some.is c.next.ensures.steps in
+    omega (arith, points_fit l.invariant.1 t.0 (t.3 0) c.requires.xs)
 
--- there is such a net
-there : (c : goal.After-lay_net-arg-1) → c.loop-k.k < length (given c).nets
-there c = omega (arith, c.loop-k.invariant.1)
+pub slice_bounds-lay_net-end : goal.slice_bounds-lay_net-end
+slice_bounds-lay_net-end c =
+    let a = c.args in
+    let l = c.loop-net in
+    let t = zip_turn a.nets.now a.counts.now l.yielded c.into_iter-net-iterator.result l.net-iterator c.next.new.self c.next.result (cc) (cc) l.yielded_by _ c.in-Some.is c.next.ensures.steps in
+    omega (arith, points_fit l.invariant.1 t.0 (t.3 0) c.requires.xs)
+
+pub slice_bounds-lay_net-end-in-loop-net : goal.slice_bounds-lay_net-end-in-loop-net
+slice_bounds-lay_net-end-in-loop-net c =
+    let a = c.args in
+    let l = c.loop-net in
+    let t = zip_turn a.nets.now a.counts.now l.yielded c.into_iter-net-iterator.result l.net-iterator c.next.new.self c.next.result (cc) (cc) l.yielded_by _ c.in-Some.is c.next.ensures.steps in
+    omega (arith, points_fit l.invariant.1 t.0 (t.3 0) c.requires.ys)
 
 pub lay_net-requires : goal.lay_net-requires
 lay_net-requires c =
-    let l = c.loop-k in
-    let within = points_within (given c) l.k (there c) in
-    let j = l.invariant.2 in (
-      omega (arith, within, j.from_is, c.requires.xs),
-      omega (arith, within, j.from_is, c.requires.ys),
-      laying_room j (there c) c.requires.room,
-    )
+    let a = c.args in
+    let l = c.loop-net in
+    let t = zip_turn a.nets.now a.counts.now l.yielded c.into_iter-net-iterator.result l.net-iterator c.next.new.self c.next.result (cc) (cc) l.yielded_by _ c.in-Some.is c.next.ensures.steps in
+    let own-xs = cut_length l.from c.in-Some.count.now a.xs.now (points_fit l.invariant.1 t.0 (t.3 0) c.requires.xs) in
+    let own-ys = cut_length l.from c.in-Some.count.now a.ys.now (points_fit l.invariant.1 t.0 (t.3 0) c.requires.ys) in
+    record { same_count = own-xs ∙ sym own-ys; room = rw (own-xs, t.3 0) (laying_room l.invariant.1 t.0 c.requires.room) }
 
-abbrev given_2 : goal.After-records_for-at → Slices
-given_2 c = let a = c.args in slices a.nets.now a.counts.now a.xs.now a.ys.now
+pub loop-net-preserved : goal.loop-net-preserved
+loop-net-preserved c =
+    let a = c.args in
+    let l = c.loop-net in
+    let t = zip_turn a.nets.now a.counts.now l.yielded c.into_iter-net-iterator.result l.net-iterator c.next.new.self c.next.result (cc) (cc) l.yielded_by _ c.in-Some.is c.next.ensures.steps in
+    let up = length_push l.yielded (c.in-Some.net, c.in-Some.count) in
+    let own-xs = cut_length l.from c.in-Some.count.now a.xs.now (points_fit l.invariant.1 t.0 (t.3 0) c.requires.xs) in
+    let own = points_cut l.from c.in-Some.count.now a.xs.now a.ys.now c.in-Some.count.now (omega arith) in
+    let written = rw (own-xs, own, t.2 0, t.3 0) at c.lay_net.ensures in
+    let many = ap (λ (n : ℕ). l.at + n) (c.records_for-at.ensures ∙ ap records_for (t.3 0)) in
+    rw up (omega (arith, t.0), laying_more l.invariant.1 written many (ap (λ (n : ℕ). l.from + n) (t.3 0)))
 
--- there is such a net
-there_2 : (c : goal.After-records_for-at) → c.loop-k.k < length (given_2 c).nets
-there_2 c = omega (arith, c.loop-k.invariant.1)
-
-pub overflow_add-at : goal.overflow_add-at
-overflow_add-at c =
-    omega (arith, c.records_for-at.ensures, laying_room c.loop-k.invariant.2 (there_2 c) c.requires.room, laying_kept c.loop-k.invariant.2 c.requires.room c.loop-k.invariant.0)
-
-pub overflow_add-from : goal.overflow_add-from
-overflow_add-from c =
-    omega (arith, points_within (given_2 c) c.loop-k.k (there_2 c), c.loop-k.invariant.2.from_is, c.requires.xs)
-
-pub loop-k-preserved : goal.loop-k-preserved
-loop-k-preserved c =
-    let l = c.loop-k in
-    (omega arith, l.invariant.1, laying_more l.invariant.2 c.lay_net.ensures (ap (λ (n : ℕ). l.at + n) c.records_for-at.ensures) refl)
+pub returns : goal.returns
+returns c =
+    let a = c.args in
+    let l = c.loop-net in
+    let e = zip_end a.nets.now a.counts.now l.yielded c.into_iter-net-iterator.result l.net-iterator c.next.new.self c.next.result (cc) (cc) l.yielded_by c.in-None.is c.next.ensures.steps in
+    laying_all l.invariant.1 (omega (arith, e, c.requires.counted))

@@ -9,5 +9,5 @@ loop-y-preserved c =
     let a = c.args in
     let row = c.loop-y.y * a.width in
     -- in this row the cells from the left to the right are blocked
-    let blocked : Filled (row + a.left) (row + a.right) 1 _ _ = c.fill.ensures in
+    let blocked : Filled (row + a.keepout.left) (row + a.keepout.right) 1 _ _ = c.fill.ensures in
     (omega arith, omega arith, lines_more c.loop-y.invariant.2 blocked (omega arith) (omega arith) (omega arith))

@@ -9,8 +9,5 @@ use Rattle.path.proofs.inner.write_path.Given as goal
 
 abbrev pub invariant-loop-i : goal.invariant-loop-i
 invariant-loop-i l =
-    (1 ≤ l.i) × (l.i ≤ l.count) × (l.v ≡ at (trail l.start l.parents (length l.parents) l.goal) (l.i - 1))
-    × (l.path ≡ take l.i l.initial.path ++ (drop l.i (trail l.start l.parents (length l.parents) l.goal) ++ drop l.count l.initial.path)) × (length l.path ≡ length l.initial.path)
-
-abbrev pub decreases-loop-i : goal.decreases-loop-i
-decreases-loop-i l = l.i
+    (1 ≤ l.i) × (l.v ≡ at (trail l.start l.parents (length l.parents) l.goal) (l.i - 1))
+    × (l.path ≡ take l.i l.initial.path ++ (drop l.i (trail l.start l.parents (length l.parents) l.goal) ++ drop l.count l.initial.path))

@@ -1,36 +1,26 @@
-use mathlib.Core.Path.{◌≡◌}
-use mathlib.Core.Bool.{Bool, true, false, not, ◌&&◌, ◌||◌}
-use Prim.Native.Nat.{ℕ}
-use lib.Dec.{ltb, eqb}
-use borrow.Author.Tests.{eq-eqb, ne_eqb}
-use Rattle.tracks.specs.Inner.{wrong_after}
+use Rattle.std.proofs.Common.{◌≡◌, ℕ, zero, suc, not, ◌&&◌, eqb, Some, arith, refl}
+use Rattle.std.proofs.lemmas.Bool.Decides.{nat_tests}
+use Rattle.std.specs.Option.{option_eq}
+use Rattle.tracks.specs.Inner.{wanted, wrong_after}
 use Rattle.places.proofs.inner.is_wrong.Goals as goal
 
-pub returns-then-net-last : goal.returns-then-net-last
+pub returns-then-net-eq0 : goal.returns-then-net-eq0
 unfolding wrong_after
-returns-then-net-last c = let a = c.args in let low : (eqb a.net 0 || ltb a.net a.last) ≡ true = c.if-net-last.true in rw low
+returns-then-net-eq0 c = λ n p point a b. grind (arith, nat_tests, c.then-net-eq0.either)
 
-module _ (last next net place : ℕ) (point : Bool) (high : (eqb net 0 || ltb net last) ≡ false) where
-  -- a net that goes on has the next place, if there is one
-  goes_on : eqb net last ≡ true → not (point && (not (eqb next 0) && eqb place next)) ≡ wrong_after last next net place point
-  unfolding wrong_after
-  goes_on e = rw (high, e)
+pub returns-in-None : goal.returns-in-None
+unfolding wrong_after
+returns-in-None c = λ n p point a b. grind (arith, nat_tests, c.in-None.is)
 
-  -- a new net begins at place 0, if it has points
-  begins : eqb net last ≡ false → (point && not (eqb place 0)) ≡ wrong_after last next net place point
-  unfolding wrong_after
-  begins e = rw (high, e)
+-- a place is the wanted one if there is one, and it is that
+other_place : (n at : ℕ) → not (option_eq eqb (wanted n) (Some at)) ≡ not (not (eqb n 0) && eqb at n)
+other_place zero at = refl
+other_place (suc n) at = grind (arith, nat_tests)
 
--- what is let through at first has a net number that is neither 0 nor below the last
-high_enough : (c : goal.Then-net-last-2) → let a = c.args in (eqb a.net 0 || ltb a.net a.last) ≡ false
-high_enough c = c.if-net-last.false
+pub returns-in-Some : goal.returns-in-Some
+unfolding wrong_after
+returns-in-Some c = λ n p point a b. grind (arith, nat_tests, c.in-Some.is, c.ne.ensures, other_place n c.in-Some.at)
 
-pub returns-then-net-last-2 : goal.returns-then-net-last-2
-returns-then-net-last-2 c = goes_on _ _ _ _ _ (high_enough c) (eq-eqb _ _ c.if-net-last-2.true)
-
--- what is let through at first has a net number that is neither 0 nor below the last
-high_enough_2 : (c : goal.Else-net-last-2) → let a = c.args in (eqb a.net 0 || ltb a.net a.last) ≡ false
-high_enough_2 c = c.if-net-last.false
-
-pub returns : goal.returns
-returns c = begins _ _ _ _ _ (high_enough_2 c) (ne_eqb _ _ c.if-net-last-2.false)
+pub returns-in-Some-2 : goal.returns-in-Some-2
+unfolding wrong_after
+returns-in-Some-2 c = λ n p point a b. grind (arith, nat_tests, c.in-Some-2.is)

@@ -10,4 +10,4 @@ returns c =
     -- the line has what the call is given, each in its place
     let line_is : c.line_for-line.result ≡ line_for a.net a.number a.place a.second a.units a.expansions a.tests = c.line_for-line.ensures in
     let asked = asked_bytes a.net a.number a.place a.second a.units a.expansions a.tests line_is in
-    line_for_c (asked a.width a.path.now) c.write_line.ensures c.tell_line.ensures
+    line_for_c (asked a.width a.path.now) c.write_line.ensures c.from.ensures

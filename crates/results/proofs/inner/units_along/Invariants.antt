@@ -8,9 +8,9 @@ use Rattle.results.proofs.inner.units_along.Given as goal
 
 abbrev pub invariant-loop-k : goal.invariant-loop-k
 invariant-loop-k l =
-    (l.k ≤ l.k-end) × (l.k-end + 1 ≡ l.n) × (l.n ≤ 65536) × (l.first + l.n ≤ records l.file) × (l.sum ≤ l.k * 134217728)
-    × PointsSmall l.n (record_points l.file l.first)
-    × (l.sum ≡ total l.k (λ (i : ℕ). leg_units (record_points l.file l.first i) (record_points l.file l.first (i + 1))))
+    (l.k ≤ l.k-end) × (l.k-end + 1 ≡ l.points.count) × (l.points.count ≤ 65536) × (l.points.first + l.points.count ≤ records l.file) × (l.sum ≤ l.k * 134217728)
+    × PointsSmall l.points.count (record_points l.file l.points.first)
+    × (l.sum ≡ total l.k (λ (i : ℕ). leg_units (record_points l.file l.points.first i) (record_points l.file l.points.first (i + 1))))
 
 abbrev pub decreases-loop-k : goal.decreases-loop-k
 decreases-loop-k l = l.k-end - l.k

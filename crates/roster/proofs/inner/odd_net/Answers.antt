@@ -1,35 +1,14 @@
-use mathlib.Core.Path.{◌≡◌}
-use mathlib.Core.Bool.{true, false}
-use native.Mathlib.Omega.{arith}
-use Rattle.laws.proofs.Below.{none_yet, none_more}
+use Rattle.std.proofs.Common.{ℕ, ◌≡◌, true, false, rules, tests}
+use Rattle.std.proofs.lemmas.Iterator.{first_from_Range}
 use Rattle.tracks.specs.Tracks.{routes_in}
 use Rattle.bureau.specs.Nets.{is_odd, odd_net}
-use Rattle.bureau.proofs.Finding.{first_found, first_done}
-use Rattle.roster.proofs.Telling.{odd_told}
+use Rattle.records.proofs.Stray.{found_first}
 use Rattle.roster.proofs.inner.odd_net.Goals as goal
-
-pub loop-number-init : goal.loop-number-init
-loop-number-init c = (omega arith, none_yet _)
-
-pub returns-then-wanted-given : goal.returns-then-wanted-given
-unfolding odd_net
-returns-then-wanted-given c =
-    let l = c.loop-number in
-    let a = c.args in
-    -- only one of the two has this net
-    let odd : is_odd a.job.now (routes_in a.file.now) l.number ≡ true =
-    odd_told c.is_in_job-wanted.ensures c.is_in_file-given.ensures c.if-wanted-given.true in
-    first_found _ l.invariant.1 odd (omega arith)
-
--- a net that is passed over is in both, or in neither
-passed_over : (c : goal.Else-wanted-given) → let a = c.args in is_odd a.job.now (routes_in a.file.now) c.loop-number.number ≡ false
-passed_over c = odd_told c.is_in_job-wanted.ensures c.is_in_file-given.ensures c.if-wanted-given.false
-
-pub loop-number-preserved : goal.loop-number-preserved
-loop-number-preserved c =
-    let l = c.loop-number in
-    (omega arith, none_more _ l.number l.invariant.1 (passed_over c))
 
 pub returns : goal.returns
 unfolding odd_net
-returns c = let l = c.loop-number in first_done _ l.invariant.1 (omega arith) (omega arith)
+returns c =
+    let odd = λ (k : ℕ). is_odd c.args.job.now (routes_in c.args.file.now) k in
+    found_first odd _ _ (first_from_Range _ _ _ _ (λ k. odd k ≡ true) (λ k. odd k ≡ false) c.find.ensures.ran
+    (λ x q k. search (rules, tests))
+    (λ x q k. (search rules, search (rules, tests))))

@@ -1,17 +1,12 @@
-use mathlib.Core.Path.{sym, ◌∙◌}
-use native.Mathlib.Omega.{arith}
-use Rattle.scan.proofs.Judging.{stray_begins, stray_next, stray_here}
+use Rattle.std.proofs.Common.{◌≡◌, rules, tests}
+use Rattle.std.proofs.lemmas.Iterator.{first_from_Range}
+use Rattle.records.specs.Records.{byte}
+use Rattle.scan.proofs.Judging.{stray_found}
 use Rattle.scan.proofs.inner.stray_byte.Goals as goal
 
-pub loop-k-init : goal.loop-k-init
-loop-k-init c = (omega arith, omega (arith, c.requires.i_bound), stray_begins _ _ _ _ c.requires.used_below)
-
-pub returns-then-byte_of-ne0 : goal.returns-then-byte_of-ne0
-returns-then-byte_of-ne0 c =
-    let l = c.loop-k in
-    stray_here _ _ _ _ c.requires.used_below l.k l.invariant.0 l.invariant.2 (λ e. c.if-byte_of-ne0.true (c.byte_of.ensures ∙ e)) (omega arith)
-
-pub loop-k-preserved : goal.loop-k-preserved
-loop-k-preserved c =
-    let l = c.loop-k in
-    (omega arith, omega arith, stray_next _ _ _ _ c.requires.used_below l.k l.invariant.0 l.invariant.2 (sym c.byte_of.ensures ∙ c.if-byte_of-ne0.false))
+pub returns : goal.returns
+returns c =
+    let a = c.args in
+    stray_found _ _ _ c.first_unused.ensures.0 _
+    (first_from_Range _ _ _ _ (λ k. byte a.file.now a.i k ≡ 0 → ⊥) (λ k. byte a.file.now a.i k ≡ 0) c.find.ensures.ran (λ x q k. search (rules, tests))
+    (λ x q k. (search rules, search (rules, tests))))

@@ -1,2 +1,0 @@
--- What the proofs of `first_stop` and `sees` use.
-mod Walked
