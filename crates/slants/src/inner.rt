@@ -83,6 +83,8 @@ pub fn stop_at(leg: &Leg<'_>, met: Across) -> Stop
 // end, and in each column the cells that the leg crosses.
 // The leg is n columns and m rows long and has come to the cell u columns and v rows on. Drawn with columns m wide and rows
 // n high it is a diagonal: `ahead` is how far the row goes on past the column's start, n * (v + 1) - m * u.
+// It is compiled into each caller, so that no leg is written out for it.
+#[inline(always)]
 pub fn first_blocked(leg: &Leg<'_>) -> Across
     requires slanted { (0 < far leg.now.ax leg.now.bx) × (0 < far leg.now.ay leg.now.by) }
     ensures met { stop_at leg.now.board.width leg.now.ax leg.now.ay leg.now.bx leg.now.by result ≡ cells_stop (board_of leg.now.board) leg.now.ax leg.now.ay leg.now.bx leg.now.by }
