@@ -1,19 +1,19 @@
 -- What the functions of this crate hand on: a net taken out of the job, a net judged, a net measured. Assumes nothing.
 use Prim.Native.Nat.{ℕ, ◌+◌, ◌-◌, ◌≤◌, ◌<◌}
 use mathlib.Core.Path.{◌≡◌, refl, sym, ap, ◌∙◌}
-use mathlib.Core.Bool.{Bool, true, false, ◌&&◌, cond}
+use mathlib.Core.Bool.{Bool, true, false, ◌&&◌}
 use mathlib.Core.List.{List, [], ◌∷◌, ◌++◌}
 use native.Mathlib.Omega.{arith}
 use lib.Dec.{leb}
 use lib.ListN.{length, drop, set}
-use borrow.Author.Tests.{leb-true}
+use borrow.Author.Tests.{leb-true, lt-ltb, le-ltb}
 use Rattle.laws.proofs.Tests.{and_left, and_right}
 use Rattle.laws.proofs.Below.{indexed_below, indexed_does_pass}
 use Rattle.board.specs.Limits.{largest_side}
 use Rattle.board.specs.Board.{Board, board}
 use Rattle.board.specs.Inner.{OnBoard}
 use Rattle.std.specs.Prelude.{Option, Some, None, is_some, Result, Ok, Err}
-use Rattle.board.specs.Handed.{passes, refused, row, verdict}
+use Rattle.board.specs.Handed.{passes, refused, verdict}
 use Rattle.board.proofs.Rows.{side_le}
 use Rattle.records.specs.Records.{records, in_order}
 use Rattle.records.proofs.InOrder.{each_passes, one_more, first_refused}
@@ -35,6 +35,7 @@ use Rattle.bureau.specs.Paths.{point_at, net_rows, path_rows, units_along}
 use Rattle.bureau.specs.Nets.{job_board, job_net, points_for, net_numbers, odd_net, odd_row, net_row, nets_rows, net_units, net_legs, units_of, legs_of}
 use Rattle.bureau.specs.Answers.{check_refusal_row, of_job, Searching, searching, after_net, after_nets}
 use Rattle.bureau.specs.Inner.{place_before, record_points, PointsOf, Room, EndsOf, fault_row, OnJob, NetJudged, NetsJudged, NetsChecked, PointsSmall, AllRight, Measured}
+use Rattle.bureau.proofs.Finding.{place_some, place_none}
 use Rattle.bureau.proofs.Answering.{refuses, one_judged, no_more, net_refused, nets_right}
 use Rattle.points.proofs.Same.{net_same, path_on}
 
@@ -181,20 +182,13 @@ module _ (job : List ℕ) (rs : List Route) (index : ℕ) (before : List ℕ) {n
 -- ---- the whole
 
 -- the net that was found, or that there is none
-odd_row_is : (t : Bool) (place : ℕ) {net : ℕ} → Some net ≡ cond t (Some place) None → row t 24 place ≡ refused 24 net 0
-odd_row_is true place {net} e = let s : net ≡ place = cc in rw s
-odd_row_is false place e = cc
-
-even_row_is : (t : Bool) (place : ℕ) → None ≡ cond t (Some place) None → row t 24 place ≡ passes
-even_row_is true place e = cc
-even_row_is false place e = refl
-
 module _ (job : List ℕ) (rs : List Route) where
   pub odd_is : {net : ℕ} → Some net ≡ place_before (odd_net job rs) net_numbers → odd_row job rs ≡ refused 24 net 0
-  odd_is e = odd_row_is _ (odd_net job rs) e
+  odd_is e =
+      let s = place_some (odd_net job rs) net_numbers e in rw (lt-ltb (odd_net job rs) net_numbers (omega (arith, s.0, s.1)), s.1) refl
 
   pub even_is : None ≡ place_before (odd_net job rs) net_numbers → odd_row job rs ≡ passes
-  even_is e = even_row_is _ (odd_net job rs) e
+  even_is e = rw (le-ltb (odd_net job rs) net_numbers (place_none (odd_net job rs) net_numbers e)) refl
 
 module _ (job file : List ℕ) (units leg_counts : List ℕ) (even : odd_row job (routes_in file) ≡ passes) {w w' : Searching} where
   -- a net has a fault: it is answered

@@ -1,8 +1,9 @@
 -- What is read from the records, and what is said of it. Assumes nothing.
 use Prim.Native.Nat.{ℕ, ◌+◌, ◌-◌, ◌<◌}
-use mathlib.Core.Path.{◌≡◌, ap₂, ◌∙◌}
-use mathlib.Core.Bool.{Bool, true, false, cond}
+use mathlib.Core.Path.{◌≡◌, refl, ap₂, ◌∙◌}
+use mathlib.Core.Bool.{Bool, true, false}
 use native.Mathlib.Omega.{arith}
+use borrow.Author.Tests.{lt-ltb, le-ltb}
 use Rattle.std.specs.Prelude.{Some, None}
 use Rattle.board.specs.Board.{Board}
 use Rattle.board.specs.Handed.{passes, refused}
@@ -11,6 +12,7 @@ use Rattle.kinds.specs.Job.{Net}
 use Rattle.tracks.specs.Tracks.{Point}
 use Rattle.bureau.specs.Paths.{is_end_wrong, off_place, is_leg_wrong, leg_place, start_of, goal_of, place_row, path_rows}
 use Rattle.bureau.specs.Inner.{place_before, PointsOn}
+use Rattle.bureau.proofs.Finding.{place_some, place_none}
 
 -- ---- a leg
 
@@ -24,19 +26,12 @@ leg_told b is_last e f h = h ∙ ap₂ (λ (p q : Point). is_leg_wrong b p q is_
 
 -- ---- the row of a place that was found, or that none was
 
-row_some : (t : Bool) (place number net : ℕ) {k : ℕ} → Some k ≡ cond t (Some place) None → cond t (refused number net place) passes ≡ refused number net k
-row_some true place number net {k} e = let s : k ≡ place = cc in rw s
-row_some false place number net e = cc
-
-row_none : (t : Bool) (place number net : ℕ) → None ≡ cond t (Some place) None → cond t (refused number net place) passes ≡ passes
-row_none true place number net e = cc
-row_none false place number net e = cc
-
 pub place_found : (place end number net : ℕ) {k : ℕ} → Some k ≡ place_before place end → place_row place end number net ≡ refused number net k
-place_found place end number net e = row_some _ place number net e
+place_found place end number net e =
+    let s = place_some place end e in rw (lt-ltb place end (omega (arith, s.0, s.1)), s.1) refl
 
 pub no_place : (place end number net : ℕ) → None ≡ place_before place end → place_row place end number net ≡ passes
-no_place place end number net e = row_none _ place number net e
+no_place place end number net e = rw (le-ltb place end (place_none place end e)) refl
 
 -- ---- the rows of a path, in order
 
