@@ -64,9 +64,10 @@ pub record PointsOf (file : List ℕ) (number : ℕ) (p : Points) : Type 0 where
   pub length_is : length (points_for (routes_in file) number) ≡ p.count
   pub point_is : (k : ℕ) → k < p.count → point_at (points_for (routes_in file) number) k ≡ record_points file p.first k
 
--- the same, or it gives none
+-- the same from the net's first record on, or it gives none
 abbrev pub PointsGiven : List ℕ → (number : ℕ) → Option Points → Type 0
-PointsGiven file number given = MatchOption given (points_for (routes_in file) number ≡ []) (PointsOf file number)
+PointsGiven file number given =
+    MatchOption given (points_for (routes_in file) number ≡ []) (λ p. (p.first ≡ first_record file number) × PointsOf file number p)
 
 -- the first n points are vertices of the board
 pub record PointsOn (b : Board) (n : ℕ) (p : ℕ → Point) : Type 0 where

@@ -3,7 +3,7 @@ use mathlib.Core.Path.{◌≡◌, sym, ap, ◌∙◌}
 use mathlib.Core.Logic.{◌≢◌}
 use mathlib.Core.Bool.{Bool, true, ◌||◌, cond}
 use mathlib.Core.List.{List}
-use Prim.Native.Nat.{ℕ, ◌+◌, ◌^◌, ◌≤◌, ◌<◌}
+use Prim.Native.Nat.{ℕ, ◌+◌, ◌*◌, ◌^◌, ◌≤◌, ◌<◌}
 use native.Mathlib.Omega.{arith}
 use lib.Dec.{eqb, ltb}
 use lib.ListN.{set}
@@ -17,6 +17,8 @@ use Rattle.problem.specs.Problem.{problem}
 use Rattle.problem.specs.Sizes.{largest}
 use Rattle.problem.proofs.Fair.{board_legs}
 use Rattle.problem.proofs.Sizes.{vertices_most, largest_fits}
+use Rattle.legs.specs.Inner.{EndsOn}
+use Rattle.table.specs.Lengths.{Known}
 use Rattle.offers.specs.declared.request.Request.{Request}
 use Rattle.offers.specs.declared.Spot.{Spot}
 use Rattle.offers.specs.Request.{board_of, asked, size_of}
@@ -30,12 +32,13 @@ settled_legs l v e f = e ∙ ap (λ (x : ℕ). set l v x) f
 pub few : (q : Request) → size_of q ≤ most_vertices
 few q = let b = q.guarded.board in vertices_most b.width b.height b.sound.narrow b.sound.low
 
-module _ {q : Request} {u from w : Spot} {s : State} (T : Taken q u from s) (B : Beside q u w) where
+module _ {q : Request} {u from w : Spot} {s : State} (T : Taken q u from s) (B : Beside (board_of q) u w) where
   pub on : w.number < size_of q
   on = placed_below B.placed
 
   -- what is looked at is not expanded, so that it is not the taken vertex
-  pub judged : at s.mark w.number ≢ 2 → Judging q u w (at s.mark w.number)
+  pub judged : {ends : EndsOn (board_of q) q.sx q.sy q.gx q.gy} → at s.mark w.number ≢ 2
+      → Judging (record { board = q.guarded.board; ax = q.sx; ay = q.sy; bx = q.gx; by = q.gy; ends = ends }) u w (at s.mark w.number)
   judged unexpanded = record {
     placed = T.placed;
     beside = B;
@@ -67,11 +70,12 @@ module _ {q : Request} {u from w : Spot} {s : State} (T : Taken q u from s) (B :
         )
 
     -- w may settle with it where it wins
-    pub settling : {count : ℕ} → (eqb (at s.mark w.number) 0
+    pub settling : {known : Known (q.guarded.board.width * q.guarded.board.width + q.guarded.board.height * q.guarded.board.height) q.table.now}
+        → {count : ℕ} → (eqb (at s.mark w.number) 0
         || less_or (at s.g parent + units) (at s.g w.number) (ltb count (at s.legs w.number))) ≡ true
-        → Settling q w parent (at s.g parent + units) count (state s.g s.parent s.mark s.legs 0 0)
+        → Settling (record { width = q.guarded.board.width; height = q.guarded.board.height; x = q.gx; y = q.gy; table = q.table; known = known }) w parent (at s.g parent + units) count (state s.g s.parent s.mark s.legs 0 0)
     unfolding problem
-    settling {count} wins =
+    settling {known} {count} wins =
         let b = q.guarded.board in
         record {
           sited = record {

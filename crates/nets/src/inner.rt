@@ -49,8 +49,10 @@ pub fn print_nets<R: Print + Eprint + AllocGlobal>(
     requires line_room_in_bounds { line_room ≤ length buffer.old }
     ensures { AllSent job.now result }
 {
+    let mut sent = 0;
     for index in 0..sides.nets {
-        print_net(rt, job, cells, sides, index, buffer).map_err(|_| LostAfter { lines: index })?;
+        print_net(rt, job, cells, sides, index, buffer).map_err(|_| LostAfter { lines: sent })?;
+        sent += 1;
     }
-    Ok(sides.nets)
+    Ok(sent)
 }

@@ -46,44 +46,44 @@ module _ {b : Board} {s : Spot} (P : Placed b s) where
 same_place : {b : Board} {s t : Spot} → Placed b s → Placed b t → s.x ≡ t.x → s.y ≡ t.y → s.number ≡ t.number
 same_place P Q e f = P.numbered ∙ rw (e, f) (sym Q.numbered)
 
-module _ (q : Request) where
-  module _ {s t : Spot} (P : Placed (board_of q) s) (Q : Placed (board_of q) t) where
-    sees_placed : (asked q).sees s.number t.number ≡ sees (board_of q) s.x s.y t.x t.y
+module _ (b : Board) (sx sy gx gy : ℕ) where
+  module _ {s t : Spot} (P : Placed b s) (Q : Placed b t) where
+    sees_placed : (problem b sx sy gx gy).sees s.number t.number ≡ sees b s.x s.y t.x t.y
     unfolding problem
     sees_placed = rw (placed_column P, placed_row P, placed_column Q, placed_row Q) refl
 
-    len_placed : (asked q).len s.number t.number ≡ units (step s.x t.x) (step s.y t.y)
+    len_placed : (problem b sx sy gx gy).len s.number t.number ≡ units (step s.x t.x) (step s.y t.y)
     unfolding problem
     len_placed = rw (placed_column P, placed_row P, placed_column Q, placed_row Q) refl
 
   -- the leg from the parent or from u itself, as the sight test tells, is what w is offered
-  module _ {from u w : Spot} (F : Placed (board_of q) from) (U : Placed (board_of q) u) (W : Placed (board_of q) w)
-      {seen : Bool} (told : seen ≡ sees (board_of q) from.x from.y w.x w.y) {parent length : ℕ} where
+  module _ {from u w : Spot} (F : Placed b from) (U : Placed b u) (W : Placed b w)
+      {seen : Bool} (told : seen ≡ sees b from.x from.y w.x w.y) {parent length : ℕ} where
     pub offered_parent : seen ≡ true → parent ≡ from.number → length ≡ units (step from.x w.x) (step from.y w.y)
-        → Offered (asked q) u.number from.number w.number parent length
+        → Offered (problem b sx sy gx gy) u.number from.number w.number parent length
     offered_parent e f g =
         record { parent_is = rw (sees_placed F W, ← told, e) f; units_are = rw f (g ∙ sym (len_placed F W)) }
 
     pub offered_own : seen ≡ false → parent ≡ u.number → length ≡ units (step u.x w.x) (step u.y w.y)
-        → Offered (asked q) u.number from.number w.number parent length
+        → Offered (problem b sx sy gx gy) u.number from.number w.number parent length
     offered_own e f g =
         record { parent_is = rw (sees_placed F W, ← told, e) f; units_are = rw f (g ∙ sym (len_placed U W)) }
 
   -- a spot that is not pinched is admitted; one that is pinched, if it is the start or the goal
-  module _ {s : Spot} (P : Placed (board_of q) s) {r : Bool} (e : r ≡ pinched (board_of q) s.x s.y) where
-    pub open_admitted : r ≡ false → true ≡ admits q s.number
+  module _ {s : Spot} (P : Placed b s) {r : Bool} (e : r ≡ pinched b s.x s.y) where
+    pub open_admitted : r ≡ false → true ≡ admitted b (number_of b.width sx sy) (number_of b.width gx gy) s.number
     unfolding admitted
     open_admitted z = rw (placed_column P, placed_row P, ← e, z) refl
 
-    pub pinched_admitted : r ≡ true → {v w : ℕ} → v ≡ number_of q.guarded.board.width q.sx q.sy
-        → w ≡ number_of q.guarded.board.width q.gx q.gy
-        → (eqb s.number v || eqb s.number w) ≡ admits q s.number
+    pub pinched_admitted : r ≡ true → {v w : ℕ} → v ≡ number_of b.width sx sy
+        → w ≡ number_of b.width gx gy
+        → (eqb s.number v || eqb s.number w) ≡ admitted b (number_of b.width sx sy) (number_of b.width gx gy) s.number
     unfolding admitted
-    pinched_admitted z a b = rw (placed_column P, placed_row P, ← e, z, a, b) refl
+    pinched_admitted z f g = rw (placed_column P, placed_row P, ← e, z, f, g) refl
 
 -- ---- beside a vertex
 
-module _ {q : Request} {u w : Spot} (P : Placed (board_of q) u) (B : Beside q u w) (d : w.number ≢ u.number) where
+module _ {b : Board} {u w : Spot} (P : Placed b u) (B : Beside b u w) (d : w.number ≢ u.number) where
   beside_neighbours : neighbours u.x u.y w.x w.y ≡ true
   unfolding neighbours
   beside_neighbours = and_both (differ (ℕ_discrete u.x w.x) (ℕ_discrete u.y w.y)) (and_both (and_both left right) (and_both above below))
@@ -106,35 +106,36 @@ module _ {q : Request} {u w : Spot} (P : Placed (board_of q) u) (B : Beside q u 
       differ (yes e) (no f) = rw (ne_eqb u.y w.y f, and_false (eqb u.x w.x) refl) refl
 
   -- it is near if it is admitted, where u is admitted
-  pub beside_near : admits q u.number ≡ true → admits q w.number ≡ (asked q).near u.number w.number
+  pub beside_near : (sx sy gx gy : ℕ) → admitted b (number_of b.width sx sy) (number_of b.width gx gy) u.number ≡ true
+      → admitted b (number_of b.width sx sy) (number_of b.width gx gy) w.number ≡ (problem b sx sy gx gy).near u.number w.number
   unfolding problem visible
-  beside_near a =
+  beside_near sx sy gx gy e =
       rw (
         placed_column P,
         placed_row P,
         placed_column B.placed,
         placed_row B.placed,
-        lt-ltb u.number (size_of q) (placed_below P),
-        lt-ltb w.number (size_of q) (placed_below B.placed),
+        lt-ltb u.number (vertices b) (placed_below P),
+        lt-ltb w.number (vertices b) (placed_below B.placed),
         beside_neighbours,
-        a,
+        e,
         B.seen,
-      ) (sym (and-true (admits q w.number)))
+      ) (sym (and-true (admitted b (number_of b.width sx sy) (number_of b.width gx gy) w.number)))
 
 -- ---- near it
 
-module _ (q : Request) {u : Spot} (P : Placed (board_of q) u) (v : ℕ) (h : (asked q).near u.number v ≡ true) where
-  pub near_neighbours : neighbours u.x u.y (column_of q.guarded.board.width v) (row_of q.guarded.board.width v) ≡ true
+module _ (b : Board) (sx sy gx gy : ℕ) {u : Spot} (P : Placed b u) (v : ℕ) (h : (problem b sx sy gx gy).near u.number v ≡ true) where
+  pub near_neighbours : neighbours u.x u.y (column_of b.width v) (row_of b.width v) ≡ true
   unfolding problem
-  near_neighbours = rw (placed_column P, placed_row P) at (visible_neighbours (board_of q) _ _ u.number v h)
+  near_neighbours = rw (placed_column P, placed_row P) at (visible_neighbours b _ _ u.number v h)
 
-  pub near_seen : sees (board_of q) u.x u.y (column_of q.guarded.board.width v) (row_of q.guarded.board.width v) ≡ true
+  pub near_seen : sees b u.x u.y (column_of b.width v) (row_of b.width v) ≡ true
   unfolding problem
-  near_seen = rw (placed_column P, placed_row P) at (visible_sees (board_of q) _ _ u.number v h)
+  near_seen = rw (placed_column P, placed_row P) at (visible_sees b _ _ u.number v h)
 
-  pub near_below : v < size_of q
+  pub near_below : v < vertices b
   unfolding problem
-  near_below = visible_below (board_of q) _ _ u.number v h
+  near_below = visible_below b _ _ u.number v h
 
 -- ---- the vertices that have been seen are admitted, and the taken one among them
 

@@ -3,49 +3,57 @@ ghost use Rattle.std.specs.Prelude.{◌≡◌, ◌||◌, ◌+◌, ◌<◌, eqb, 
 ghost use Rattle.board.specs.Limits.{most_vertices};
 ghost use Rattle.spans.specs.Legs.{step};
 ghost use Rattle.length.specs.Units.{units};
-ghost use Rattle.offers.specs.Request.{board_of, asked, admits, Placed};
-ghost use Rattle.offers.specs.Offers.{Offered, Judging, ListedFor, Settling, Settled};
+ghost use Rattle.board.specs.Checked.{board_of};
+ghost use Rattle.guard.specs.Guard.{Guarded};
+ghost use Rattle.table.specs.Lengths.{Known};
+ghost use Rattle.open.specs.Marked.{Listed};
+ghost use Rattle.offers.specs.Asked.{problem_of, admitted_to, diagonal};
+ghost use Rattle.offers.specs.Request.{Placed};
+ghost use Rattle.offers.specs.Offers.{Offered, Judging, Settling, Settled};
 ghost use Rattle.reach.specs.Turns.{at};
 ghost use Rattle.theta.specs.Order.{less_or};
 ghost use Rattle.theta.specs.Lent.{state};
 
-use crate::request::Request;
+use crate::goal::Goal;
 use crate::{Offer, Spot};
 use board::Vertex;
 use board::inner::number_of;
 use glance::inner::is_pinched;
+use guard::guarded::GuardedBoard;
 use legs::leg::Leg;
 use open::list::open_vertex;
 use table::inner::units_between;
 use walks::inner::sees;
 
 // The leg from one vertex to another as an offer.
-fn leg_from(request: &Request<'_, '_>, from: Spot, w: Spot) -> Offer
-    requires { Placed (board_of request.now) from × Placed (board_of request.now) w }
+fn leg_from(asked: &Leg<'_>, from: Spot, w: Spot, table: &[u32]) -> Offer
+    requires placed { Placed (board_of asked.now.board) from × Placed (board_of asked.now.board) w }
+    requires known { Known (diagonal asked.now) table.now }
     ensures { (result.parent ≡ from.number) × (result.units ≡ units (step from.x w.x) (step from.y w.y)) }
 {
     Offer {
         parent: from.number,
-        units: units_between(from.x, from.y, w.x, w.y, request.table),
+        units: units_between(from.x, from.y, w.x, w.y, table),
     }
 }
 
 // What the neighbour w is offered, by one sight test: the leg from the taken vertex's parent if that sees w, else from u itself.
-pub fn candidate(request: &Request<'_, '_>, u: Spot, parent: Spot, w: Spot) -> Offer
-    requires { Placed (board_of request.now) u × Placed (board_of request.now) parent × Placed (board_of request.now) w }
-    ensures { Offered (asked request.now) u.number parent.number w.number result.parent result.units }
+pub fn candidate(asked: &Leg<'_>, u: Spot, parent: Spot, w: Spot, table: &[u32]) -> Offer
+    requires placed { Placed (board_of asked.now.board) u × Placed (board_of asked.now.board) parent × Placed (board_of asked.now.board) w }
+    requires known { Known (diagonal asked.now) table.now }
+    ensures { Offered (problem_of asked.now) u.number parent.number w.number result.parent result.units }
 {
     let leg = Leg {
-        board: request.guarded.board,
+        board: asked.board,
         ax: parent.x,
         ay: parent.y,
         bx: w.x,
         by: w.y,
     };
     if sees(&leg) {
-        return leg_from(request, parent, w);
+        return leg_from(asked, parent, w, table);
     }
-    leg_from(request, u, w)
+    leg_from(asked, u, w, table)
 }
 
 // The legs of a vertex that has this parent.
@@ -71,7 +79,7 @@ pub fn wins(mark: u8, own: u64, count: Vertex, old: u64, had: Vertex) -> bool
 
 // The vertex w opens, or gets what is better: the g `own`, this parent and so many legs, and it enters the open list.
 pub fn settle(
-    request: &Request<'_, '_>,
+    goal: &Goal<'_>,
     w: Spot,
     parent: usize,
     own: u64,
@@ -83,18 +91,18 @@ pub fn settle(
     leads: &mut [Vertex],
     keys: &mut [u64],
 )
-    requires settling { Settling request.now w parent own count (state g.old parents.old marks.old legs.old 0 0) }
-    requires listed_for { ListedFor request.now g.old marks.old legs.old leads.old keys.old }
-    ensures { Settled request.now w parent own count (state g.old parents.old marks.old legs.old 0 0) (state g.new parents.new marks.new legs.new 0 0) leads.new keys.new }
+    requires settling { Settling goal.now w parent own count (state g.old parents.old marks.old legs.old 0 0) }
+    requires listed_for { Listed goal.now.width goal.now.height goal.now.x goal.now.y g.old marks.old legs.old leads.old keys.old }
+    ensures { Settled goal.now w parent own count (state g.old parents.old marks.old legs.old 0 0) (state g.new parents.new marks.new legs.new 0 0) leads.new keys.new }
 {
     let v = w.number;
     open_vertex(
-        request.guarded.board.width,
-        request.guarded.board.height,
+        goal.width,
+        goal.height,
         w.x,
         w.y,
-        request.gx,
-        request.gy,
+        goal.x,
+        goal.y,
         v,
         own,
         count,
@@ -103,32 +111,34 @@ pub fn settle(
         legs,
         leads,
         keys,
-        request.table,
+        goal.table,
     );
     parents[v] = parent as Vertex;
 }
 
 // Whether w may be passed in this search: it is not pinched, or it is the start or the goal.
-fn is_admitted(request: &Request<'_, '_>, w: Spot) -> bool
-    requires { Placed (board_of request.now) w }
-    ensures { result ≡ admits request.now w.number }
+fn is_admitted(asked: &Leg<'_>, copy: &[u8], w: Spot) -> bool
+    requires placed { Placed (board_of asked.now.board) w }
+    requires guarded { Guarded (board_of asked.now.board) copy.now }
+    ensures { result ≡ admitted_to asked.now w.number }
 {
-    if !is_pinched(&request.guarded, w.x, w.y) {
+    let board = asked.board;
+    if !is_pinched(&GuardedBoard { board, copy }, w.x, w.y) {
         return true;
     }
-    let width = request.guarded.board.width;
-    let start = number_of(width, request.sx, request.sy) as usize;
-    let goal = number_of(width, request.gx, request.gy) as usize;
+    let start = number_of(board.width, asked.ax, asked.ay) as usize;
+    let goal = number_of(board.width, asked.bx, asked.by) as usize;
     (w.number == start) | (w.number == goal)
 }
 
 // Whether w, which u sees, is a visible neighbour of u. What has been seen before was admitted then: it is not asked again.
-pub fn is_visible(request: &Request<'_, '_>, u: Spot, w: Spot, mark: u8) -> bool
-    requires { Judging request.now u w mark }
-    ensures { result ≡ (asked request.now).near u.number w.number }
+pub fn is_visible(asked: &Leg<'_>, copy: &[u8], u: Spot, w: Spot, mark: u8) -> bool
+    requires judging { Judging asked.now u w mark }
+    requires guarded { Guarded (board_of asked.now.board) copy.now }
+    ensures { result ≡ (problem_of asked.now).near u.number w.number }
 {
     if mark != 0 {
         return true;
     }
-    is_admitted(request, w)
+    is_admitted(asked, copy, w)
 }

@@ -1,6 +1,7 @@
 // What a neighbour of a taken vertex is offered, and how it takes it.
 #![tactic(auto)]
 
+pub mod goal;
 pub mod inner;
 pub mod request;
 

@@ -3,6 +3,7 @@ ghost use Rattle.std.specs.Prelude.{◌≡◌, ◌≤◌, ◌<◌, ℕ, Bool, So
 ghost use Rattle.records.specs.Records.{record_bytes, records, byte};
 ghost use Rattle.tracks.specs.Tracks.{is_point, place_of};
 ghost use Rattle.tracks.specs.Inner.{wanted, wrong_after};
+ghost use Rattle.places.specs.Behind.{wrong_behind};
 
 use records::RECORD;
 use tracks::Kind;
@@ -37,7 +38,8 @@ pub fn place_of(file: &[u8], i: usize) -> usize
 // Whether a record of this net, a point at this place if it is one, cannot come after a record of the net `last`; `next` is
 // the place that a further point of that net has, if it can have one.
 pub fn is_wrong(last: usize, next: Option<usize>, net: usize, place: Option<usize>) -> bool
-    ensures { (n p : ℕ) → (point : Bool) → next ≡ wanted n → place ≡ cond point (Some p) None → result ≡ wrong_after last n net p point }
+    ensures told { result ≡ wrong_behind last next net place }
+    ensures by_numbers { (n p : ℕ) → (point : Bool) → next ≡ wanted n → place ≡ cond point (Some p) None → result ≡ wrong_after last n net p point }
 {
     if net == 0 || net < last {
         return true;

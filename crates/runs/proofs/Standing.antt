@@ -394,11 +394,15 @@ module _ (file : List ℕ) (number : ℕ) (clean : file_rows file ≡ passes) wh
       pub begins : (first < records file) × (is_point file first ≡ true) × (place_of file first ≡ 0)
       begins = (there.0, p, first_place file number (all_records file clean) first there.1 there.0 p)
 
-      pub points_are : {n : ℕ} → Run file first n × (n ≤ 65536) → PointsOf file number (record { first = first; count = n })
-      points_are {n} r = record {
-        some = r.0.some;
-        few = r.1;
-        within = r.0.within;
-        length_is = run_length file number (all_records file clean) first there.1 there.0 n r.0;
-        point_is = run_at file number (all_records file clean) first there.1 there.0 n r.0;
-      }
+      pub points_are : {n : ℕ} → Run file first n × (n ≤ 65536)
+          → (first ≡ first_record file number) × PointsOf file number (record { first = first; count = n })
+      points_are {n} r = (
+        there.1,
+        record {
+          some = r.0.some;
+          few = r.1;
+          within = r.0.within;
+          length_is = run_length file number (all_records file clean) first there.1 there.0 n r.0;
+          point_is = run_at file number (all_records file clean) first there.1 there.0 n r.0;
+        },
+      )

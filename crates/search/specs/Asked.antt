@@ -1,18 +1,9 @@
 -- What is asked of the search: a start and a goal as the ends of a leg on a checked board. No public contract cites it, so nobody need believe this.
-use Rattle.std.specs.Prelude.{ℕ, ◌+◌, ◌*◌, ◌≤◌, List, length}
+use Rattle.std.specs.Prelude.{ℕ, ◌≤◌, List, length}
 use Rattle.board.specs.Board.{vertices}
 use Rattle.board.specs.Checked.{board_of}
 use Rattle.legs.specs.declared.leg.Leg.{Leg}
-use Rattle.theta.specs.Search.{Problem}
-use Rattle.problem.specs.Problem.{problem}
-
--- from its first end to its second
-abbrev pub problem_of : Leg → Problem
-problem_of asked = problem (board_of asked.board) asked.ax asked.ay asked.bx asked.by
-
--- no two vertices of its board have differences whose squares sum up to more
-abbrev pub diagonal : Leg → ℕ
-diagonal asked = asked.board.width * asked.board.width + asked.board.height * asked.board.height
+pub use Rattle.offers.specs.Asked.{problem_of, diagonal}
 
 -- the lent slices have an entry for each vertex
 pub record Room (asked : Leg) (g parents marks legs : List ℕ) : Type 0 where

@@ -56,26 +56,26 @@ fn is_pinch(cells: &[u8], beside: usize, below: usize, next: usize) -> bool
 
 // The corner of the cell with this index that lies nearer to the leg's first end.
 #[tactic(auto, unfolding(crate::specs::Walk::corner_of))]
-fn corner_of(leg: &Leg<'_>, index: usize) -> Stop
-    requires { index < 4 * most_vertices }
-    ensures { result ≡ corner_of leg.now.board.width leg.now.ax leg.now.ay leg.now.bx leg.now.by index }
+fn corner_of(width: usize, ax: usize, ay: usize, bx: usize, by: usize, index: usize) -> Stop
+    requires { (0 < width) × (index < 4 * most_vertices) }
+    ensures { result ≡ corner_of width ax ay bx by index }
 {
     Stop::Vertex(
-        index % leg.board.width + forward(leg.bx, leg.ax, 1),
-        index / leg.board.width + forward(leg.by, leg.ay, 1),
+        index % width + forward(bx, ax, 1),
+        index / width + forward(by, ay, 1),
     )
 }
 
-// What stops the leg, by what the walk met.
+// What stops the leg from (ax, ay) to (bx, by) on a board of that width, by what the walk met.
 #[tactic(auto, unfolding(crate::specs::Walk::stop_at))]
-pub fn stop_at(leg: &Leg<'_>, met: Across) -> Stop
-    requires { Below (4 * most_vertices) met }
-    ensures { result ≡ stop_at leg.now.board.width leg.now.ax leg.now.ay leg.now.bx leg.now.by met }
+pub fn stop_at(width: usize, ax: usize, ay: usize, bx: usize, by: usize, met: Across) -> Stop
+    requires { (0 < width) × Below (4 * most_vertices) met }
+    ensures { result ≡ stop_at width ax ay bx by met }
 {
     match met {
         Across::Nothing => Stop::Clear,
-        Across::Blocked(index) => Stop::Cell(index % leg.board.width, index / leg.board.width),
-        Across::Pinch(index) => corner_of(leg, index),
+        Across::Blocked(index) => Stop::Cell(index % width, index / width),
+        Across::Pinch(index) => corner_of(width, ax, ay, bx, by, index),
     }
 }
 

@@ -8,12 +8,12 @@ use native.Mathlib.Omega.{arith}
 use lib.ListN.{length, set, replicate, drop, length-append, length-replicate, get_or-replicate, get_or-append}
 use lib.Seq.{set-get_or}
 use Rattle.board.specs.Limits.{most_vertices}
-use Rattle.board.specs.Board.{number}
+use Rattle.board.specs.Board.{Board, number}
 use Rattle.board.proofs.Numbers.{number_below, column_number, row_number}
 use Rattle.theta.specs.Order.{Contest, least}
 use Rattle.tournament.specs.Contest.{no_key}
 use Rattle.open.specs.Groups.{nodes_of}
-use Rattle.open.specs.Marked.{to_goal, board_contest, Sited, Blank, Lower, Opens}
+use Rattle.open.specs.Marked.{to_goal, board_contest, Sited, Blank, Listed, Lower, Opens}
 use Rattle.open.proofs.Listing.{listed_empty, listed_least, listed_on, listed_none, no_stale_key}
 use Rattle.reach.specs.Turns.{at, vertex, Result, turns}
 use Rattle.offers.specs.declared.request.Request.{Request}
@@ -36,9 +36,15 @@ use Rattle.problem.proofs.Sizes.{tests_fit, vertices_most}
 use Rattle.problem.proofs.Fair.{board_fair, board_legs}
 
 -- the loop is at this state of the search that gives the whole, and the open list is right: so no key is stale (`turn_no_stale_key`)
-pub record Finding (q : Request) (whole : Result State) (s : State) (leads keys : List ℕ) : Type 0 where
-  pub going : Going (asked q) (longest q.guarded.board.width q.guarded.board.height) whole s
-  pub listed : ListedFor q s.g s.mark s.legs leads keys
+pub record Finding (b : Board) (sx sy gx gy : ℕ) (whole : Result State) (s : State) (leads keys : List ℕ) : Type 0 where
+  pub going : Going (problem b sx sy gx gy) (longest b.width b.height) whole s
+  pub listed : Listed b.width b.height gx gy s.g s.mark s.legs leads keys
+
+-- no stale key: at every turn, where a node has a leader, its key is that vertex's f as it is now
+pub turn_no_stale_key : {b : Board} {sx sy gx gy : ℕ} {whole : Result State} {s : State} {leads keys : List ℕ}
+    → Finding b sx sy gx gy whole s leads keys → (i : ℕ) → 0 < i → i < nodes_of b.width b.height → at keys i ≢ no_key
+    → at keys i ≡ at s.g (at leads i) + to_goal b.width gx gy (at leads i)
+turn_no_stale_key W = no_stale_key W.listed
 
 -- what the loop's beginning makes of the whole
 abbrev pub whole_from : Request → State → Result State
@@ -131,19 +137,14 @@ module _ {q : Request} (A : Asked q) where
   -- ---- a turn
 
   pub finding_start : {s : State} {leads keys : List ℕ} → Begins (asked q) s → ListedFor q s.g s.mark s.legs leads keys
-      → Finding q (whole_from q s) s leads keys
+      → Finding (board_of q) q.sx q.sy q.gx q.gy (whole_from q s) s leads keys
   unfolding problem
   finding_start B D = record { going = going_start fair B; listed = D }
 
-  module _ {whole : Result State} {s : State} {leads keys : List ℕ} (W : Finding q whole s leads keys) where
+  module _ {whole : Result State} {s : State} {leads keys : List ℕ} (W : Finding (board_of q) q.sx q.sy q.gx q.gy whole s leads keys) where
     pub finding_tests : s.tests < 2 ^ 62
     unfolding problem
     finding_tests = omega (arith, tests_bound fair W.going.kept, tests_fit q.guarded.board.width q.guarded.board.height A.sound.narrow A.sound.low)
-
-    -- no stale key: at every turn, where a node has a leader, its key is that vertex's f as it is now
-    pub turn_no_stale_key : (i : ℕ) → 0 < i → i < nodes_of q.guarded.board.width q.guarded.board.height → at keys i ≢ no_key
-        → at keys i ≡ at s.g (at leads i) + to_goal q.guarded.board.width q.gx q.gy (at leads i)
-    turn_no_stale_key = no_stale_key W.listed
 
     -- the contest of the search is the board's
     same_contest : board_contest q.guarded.board.width q.guarded.board.height q.gx q.gy s.g s.mark s.legs ≡ contest_of (asked q) s
@@ -198,6 +199,6 @@ module _ {q : Request} (A : Asked q) where
 
         -- it has been expanded
         pub finding_next : {r : State} {leads' keys' : List ℕ} → Rounded (asked q) v (size_of q) (marked v (counting 0 s)) r
-            → ListedFor q r.g r.mark r.legs leads' keys' → Finding q whole (counting (s.expansions + 1) r) leads' keys'
+            → ListedFor q r.g r.mark r.legs leads' keys' → Finding (board_of q) q.sx q.sy q.gx q.gy whole (counting (s.expansions + 1) r) leads' keys'
         unfolding problem
         finding_next R D = record { going = going_round fair legs W.going v chosen R; listed = D }

@@ -22,7 +22,8 @@ pub fn first_stop(leg: &Leg<'_>) -> Stop
         let met = first_walled(&leg.board, false, leg.ax, leg.ay, leg.by);
         return stop_after(false, leg.ax, leg.ay, leg.by, met);
     }
-    stop_at(leg, first_blocked(leg))
+    let met = first_blocked(leg);
+    stop_at(leg.board.width, leg.ax, leg.ay, leg.bx, leg.by, met)
 }
 
 // Whether the leg has sight.

@@ -74,7 +74,7 @@ module _ {q : Request} {u from : Spot} {before : State} (T : Taken q u from befo
   -- a place from that one on has its bit, if its vertex is near
   near_left : (v : ℕ) → P.number ≤ v → (asked q).near u.number v ≡ true → (k : ℕ) × At (board_of q) u k v × (bit left k ≡ true)
   near_left v l h =
-      let (k, A, other) = near_place q T.placed v h in
+      let (k, A, other) = near_place (board_of q) q.sx q.sy q.gx q.gy T.placed v h in
       let later : P.place ≤ k =
       ⊎_elim (λ (e : k < P.place). absurd (omega (arith, P.passed k v A e))) (λ (g : P.place ≤ k). g) (order k P.place) in
       (k, A, rw (P.rest k) (and_both (le-leb P.place k later) (P.glanced.complete k A.sight other)))

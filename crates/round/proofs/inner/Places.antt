@@ -12,9 +12,9 @@ use Rattle.board.proofs.Numbers.{number_below, number_back, column_on, row_on}
 use Rattle.legs.specs.Leg.{far}
 use Rattle.legs.proofs.Neighbours.{neighbours_near, neighbours_differ}
 use Rattle.glance.specs.Glance.{InSight}
-use Rattle.offers.specs.declared.request.Request.{Request}
+use Rattle.problem.specs.Problem.{problem}
 use Rattle.offers.specs.declared.Spot.{Spot}
-use Rattle.offers.specs.Request.{board_of, asked, Placed}
+use Rattle.offers.specs.Request.{Placed}
 use Rattle.offers.proofs.Places.{near_neighbours, near_seen, near_below}
 
 -- the number of the vertex at the place k, from that of (x, y)
@@ -64,18 +64,18 @@ at_later {b} {u} {i} {j} {v} {w} A B l =
 steps : (a b : ℕ) → far a b ≤ 1 → (n : ℕ) × (n ≤ 2) × (a + n ≡ b + 1)
 steps a b h = (b + 1 - a, omega arith, omega arith)
 
-module _ (q : Request) {u : Spot} (P : Placed (board_of q) u) (v : ℕ) (h : (asked q).near u.number v ≡ true) where
+module _ (b : Board) (sx sy gx gy : ℕ) {u : Spot} (P : Placed b u) (v : ℕ) (h : (problem b sx sy gx gy).near u.number v ≡ true) where
   abbrev x : ℕ
-  x = column_of q.guarded.board.width v
+  x = column_of b.width v
 
   abbrev y : ℕ
-  y = row_of q.guarded.board.width v
+  y = row_of b.width v
 
   close : (far u.x x ≤ 1) × (far u.y y ≤ 1)
-  close = neighbours_near u.x u.y x y (near_neighbours q P v h)
+  close = neighbours_near u.x u.y x y (near_neighbours b sx sy gx gy P v h)
 
   there : (columns rows : ℕ) → columns ≤ 2 → rows ≤ 2 → u.x + columns ≡ x + 1 → u.y + rows ≡ y + 1
-      → (k : ℕ) × At (board_of q) u k v × (k ≢ 5)
+      → (k : ℕ) × At b u k v × (k ≢ 5)
   there columns rows few-columns few-rows across down =
       let k = 4 * rows + columns in
       let column : k % 4 ≡ columns = omega arith in
@@ -89,16 +89,16 @@ module _ (q : Request) {u : Spot} (P : Placed (board_of q) u) (v : ℕ) (h : (as
             row_in = rw row few-rows;
             column_some = rw column (omega arith);
             row_some = rw row (omega arith);
-            on = record { x_on = rw x-is (column_on q.guarded.board.width v); y_on = rw y-is (row_on q.guarded.board.width q.guarded.board.height v (near_below q P v h)) };
-            seen = rw (x-is, y-is) (near_seen q P v h);
+            on = record { x_on = rw x-is (column_on b.width v); y_on = rw y-is (row_on b.width b.height v (near_below b sx sy gx gy P v h)) };
+            seen = rw (x-is, y-is) (near_seen b sx sy gx gy P v h);
           };
-          number_is = rw (x-is, y-is) (sym (number_back q.guarded.board.width v));
+          number_is = rw (x-is, y-is) (sym (number_back b.width v));
         },
-        λ e. neighbours_differ u.x u.y x y (near_neighbours q P v h) (omega arith) (omega arith),
+        λ e. neighbours_differ u.x u.y x y (near_neighbours b sx sy gx gy P v h) (omega arith) (omega arith),
       )
 
   -- each vertex that is near the taken one is at a place that is not its own
-  pub near_place : (k : ℕ) × At (board_of q) u k v × (k ≢ 5)
+  pub near_place : (k : ℕ) × At b u k v × (k ≢ 5)
   near_place =
       let (columns, few-columns, across) = steps u.x x close.0 in
       let (rows, few-rows, down) = steps u.y y close.1 in

@@ -6,7 +6,7 @@ returns-in-None c = as_none c.in-None.ensures c.judge_none.ensures
 
 pub judge_points-requires : goal.judge_points-requires
 judge_points-requires c =
-    let p = c.in-Some.ensures in record { count_nonzero = (p.some, p.within) }
+    let p = c.in-Some.ensures.1 in record { count_nonzero = (p.some, p.within) }
 
 pub returns-in-Some : goal.returns-in-Some
-returns-in-Some c = points_judged c.in-Some.ensures c.judge_points.ensures
+returns-in-Some c = points_judged c.in-Some.ensures.1 c.judge_points.ensures

@@ -18,8 +18,8 @@ pub bounds-marks-v : goal.bounds-marks-v
 unfolding problem
 bounds-marks-v c = let T = c.requires.taken in omega (arith, on T c.requires.beside, T.ready.room_m)
 
-pub is_visible-requires : goal.is_visible-requires
-is_visible-requires c = judged c.requires.taken c.requires.beside c.if-mark-eq2.false
+pub is_visible-requires-clause-judging : goal.is_visible-requires-clause-judging
+is_visible-requires-clause-judging c = judged c.requires.taken c.requires.beside c.if-mark-eq2.false
 
 pub overflow_add-own : goal.overflow_add-own
 overflow_add-own c = omega (arith, own_small c.requires.taken c.requires.beside c.candidate-offer.ensures)

@@ -9,10 +9,12 @@ was_seen c = c.if-mark-ne0.true
 
 pub returns-then-mark-ne0 : goal.returns-then-mark-ne0
 returns-then-mark-ne0 c =
-    let J = c.requires in
-    sym (J.seen_admitted (was_seen c)) ∙ beside_near J.placed J.beside J.apart J.admitted
+    let J = c.requires.judging in
+    let a = c.args.asked.now in
+    sym (J.seen_admitted (was_seen c)) ∙ beside_near J.placed J.beside J.apart a.ax a.ay a.bx a.by J.admitted
 
 pub returns : goal.returns
 returns c =
-    let J = c.requires in
-    c.is_admitted.ensures ∙ beside_near J.placed J.beside J.apart J.admitted
+    let J = c.requires.judging in
+    let a = c.args.asked.now in
+    c.is_admitted.ensures ∙ beside_near J.placed J.beside J.apart a.ax a.ay a.bx a.by J.admitted

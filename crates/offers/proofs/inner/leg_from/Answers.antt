@@ -3,8 +3,7 @@ use Rattle.offers.proofs.inner.leg_from.Goals as goal
 
 pub units_between-requires : goal.units_between-requires
 units_between-requires c =
-    let q = c.args.request.now in
-    let B = q.guarded.board.sound in
-    let (F, W) = c.requires in
-    let (small, known) = known_leg q.known (B.narrow, B.low) (F.on.x_on, F.on.y_on, W.on.x_on, W.on.y_on) in
+    let B = c.args.asked.now.board.sound in
+    let (F, W) = c.requires.placed in
+    let (small, known) = known_leg c.requires.known (B.narrow, B.low) (F.on.x_on, F.on.y_on, W.on.x_on, W.on.y_on) in
     record { ax_le_largest_side = small; known = known }

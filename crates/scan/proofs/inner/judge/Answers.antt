@@ -12,7 +12,7 @@ returns-in-Some c = unused_row_lem _ _ _ (c.in-Ok.ensures ∙ c.byte_at.ensures)
 pub returns-then-is_wrong : goal.returns-then-is_wrong
 returns-then-is_wrong c =
     wrong_row _ _ _ (c.in-Ok.ensures ∙ c.byte_at.ensures) c.in_default-stray_byte.ensures c.requires.past_value.1 c.requires.past_value.0
-    (c.from-net.ensures ∙ c.byte_at-2.ensures) c.place_given-place.ensures.given c.is_wrong.ensures c.if-is_wrong.true
+    (c.from-net.ensures ∙ c.byte_at-2.ensures) c.place_given-place.ensures.given c.is_wrong.ensures.by_numbers c.if-is_wrong.true
 
 pub after_record-requires-clause-counted : goal.after_record-requires-clause-counted
 after_record-requires-clause-counted c =
@@ -22,4 +22,4 @@ after_record-requires-clause-counted c =
 pub returns : goal.returns
 returns c =
     right_row _ _ _ (c.in-Ok.ensures ∙ c.byte_at.ensures) c.in_default-stray_byte.ensures c.requires.past_value.1 c.requires.past_value.0
-    (c.from-net.ensures ∙ c.byte_at-2.ensures) c.place_given-place.ensures.given c.is_wrong.ensures c.if-is_wrong.false c.after_record.ensures
+    (c.from-net.ensures ∙ c.byte_at-2.ensures) c.place_given-place.ensures.given c.is_wrong.ensures.by_numbers c.if-is_wrong.false c.after_record.ensures

@@ -4,7 +4,7 @@ use Rattle.walls.proofs.leg.Indices.{forward_fits}
 use Rattle.slants.proofs.inner.corner_of.Goals as goal
 
 pub overflow_add-result : goal.overflow_add-result
-overflow_add-result c = let a = c.args in omega (arith, mod-le a.index a.leg.now.board.width, forward_fits _ _ 1 c.forward.ensures)
+overflow_add-result c = let a = c.args in omega (arith, mod-le a.index a.width, forward_fits _ _ 1 c.forward.ensures)
 
 pub overflow_add-result-2 : goal.overflow_add-result-2
-overflow_add-result-2 c = let a = c.args in omega (arith, div-le_self a.index a.leg.now.board.width, forward_fits _ _ 1 c.forward-2.ensures)
+overflow_add-result-2 c = let a = c.args in omega (arith, div-le_self a.index a.width, forward_fits _ _ 1 c.forward-2.ensures)

@@ -19,5 +19,5 @@ returns-then-leg-2 c =
 pub returns : goal.returns
 returns c =
     let a = c.args.leg.now in
-    c.stop_at.ensures ∙ c.first_blocked.ensures.met
+    c.stop_at.ensures ∙ c.first_blocked-met.ensures.met
     ∙ sym (slanted_stop (board_of a.board) a.ax a.ay a.bx a.by c.if-leg.false c.if-leg-2.false)
